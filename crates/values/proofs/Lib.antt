@@ -1,0 +1,5 @@
+pub mod Days
+pub mod Parts
+pub mod Commodities
+pub mod Accounts
+pub mod Under

@@ -1,0 +1,4 @@
+pub mod Amounts
+pub mod Calendar
+pub mod Names
+pub mod Spelling

@@ -1,0 +1,4 @@
+// The values that the books are made of: amounts, dates, and the names of commodities and accounts.
+pub mod amount;
+pub mod date;
+pub mod names;
