@@ -15,7 +15,7 @@ here-or-later : (xs : List ℕ) (i : ℕ) → i < length xs → before-separator
 here-or-later xs i h =
     at-drop-more before-separator xs i 0 h
     ∙ ap (λ (b : ℕ). cond (eqb (getD xs i 0) 44 && eqb b 32) 0 (1 + before-separator (drop (i + 1) xs)))
-      (getD-drop (i + 1) xs 0 0 ∙ ap (λ (k : ℕ). getD xs k 0) (add-zero (i + 1)))
+    (getD-drop (i + 1) xs 0 0 ∙ ap (λ (k : ℕ). getD xs k 0) (add-zero (i + 1)))
 
 pub separator-here : (xs : List ℕ) (i : ℕ) → i < length xs → separates xs i ≡ true → before-separator (drop i xs) ≡ 0
 separator-here xs i h e = here-or-later xs i h ∙ cond-true _ _ _ e

@@ -48,8 +48,8 @@ gap-end bs = before 32 bs + run-length Space (drop (before 32 bs) bs)
 unfoldable pub two-words : Spot → Option Words
 two-words s =
     cond (leb 1 (before 32 (s .text)) && is-word (drop (gap-end (s .text)) (s .text)))
-      (Some (record { number = record { text = take (before 32 (s .text)) (s .text); place = s .place }; commodity = record { text = drop (gap-end (s .text)) (s .text); place = s .place + gap-end (s .text) } }))
-      None
+    (Some (record { number = record { text = take (before 32 (s .text)) (s .text); place = s .place }; commodity = record { text = drop (gap-end (s .text)) (s .text); place = s .place + gap-end (s .text) } }))
+    None
 
 -- what the shape of the braces says: which parts they have
 pub data Shape : Type 0 where
@@ -79,14 +79,14 @@ one-part s = cond (is-word (s .text)) (Some (date-part s)) (mapped cost-part (tw
 unfoldable pub shape : Spot → Option Shape
 shape s =
     cond (missing s) (Some no-part)
-      (cond (ltb (before-separator (s .text)) (length (s .text))) (two-parts s (before-separator (s .text))) (one-part s))
+    (cond (ltb (before-separator (s .text)) (length (s .text))) (two-parts s (before-separator (s .text))) (one-part s))
 
 -- a cost has no minus; its number is read first
 unfoldable pub cost-in : ℕ → Words → Result Cost-said CostFault
 cost-in brace w =
     and-then fault.Number (number-at (w .number .text) (w .number .place)) (λ v.
-      cond (has-minus (w .number .text)) (Err (fault.Braces brace))
-        (and-then fault.Name (commodity-at (w .commodity)) (λ c. Ok (record { number = w .number; hundredths = v; commodity = c }))))
+    cond (has-minus (w .number .text)) (Err (fault.Braces brace))
+    (and-then fault.Name (commodity-at (w .commodity)) (λ c. Ok (record { number = w .number; hundredths = v; commodity = c }))))
 
 unfoldable pub date-in : Spot → Result ℕ CostFault
 date-in s = and-then fault.Date (date-at (s .text) (s .place)) (λ d. Ok d)

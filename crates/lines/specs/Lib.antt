@@ -5,5 +5,6 @@ pub mod Braces
 pub mod Shapes
 pub mod Postings
 pub mod Directives
--- Lines
 pub mod Quotes
+pub mod Lines
+pub mod Journals

@@ -28,9 +28,9 @@ ends-at line from = cond (missing (field-at line from)) (Ok tt) (Err (field-at l
 abbrev pub closed : List ℕ → ℕ → ℕ → Result (Option Braces-said) PostingFault
 closed line brace n =
     cond (ends-field (drop (brace + n + 1) line))
-      (and-then posting-from-cost (inside brace (record { text = take n (drop brace line); place = brace + 1 })) (λ b.
-        and-then fault.Form (ends-at line (brace + n + 1)) (λ _. Ok (Some b))))
-      (Err (fault.Braces brace))
+    (and-then posting-from-cost (inside brace (record { text = take n (drop brace line); place = brace + 1 })) (λ b.
+    and-then fault.Form (ends-at line (brace + n + 1)) (λ _. Ok (Some b))))
+    (Err (fault.Braces brace))
 
 -- braces run to the first closing brace behind them
 unfoldable pub braces-from : List ℕ → ℕ → Result (Option Braces-said) PostingFault
@@ -50,14 +50,14 @@ units-at line from =
     let number = field-at line from in
     let end = field-end line from in
     and-then fault.Number (number-at (number .text) (number .place)) (λ v.
-      and-then fault.Name (commodity-at (field-at line end)) (λ c.
-        and-then (λ f. f) (braces-at line (field-end line end)) (λ b.
-          Ok (record { number = number; hundredths = v; commodity = c; braces = b }))))
+    and-then fault.Name (commodity-at (field-at line end)) (λ c.
+    and-then (λ f. f) (braces-at line (field-end line end)) (λ b.
+    Ok (record { number = number; hundredths = v; commodity = c; braces = b }))))
 
 -- an account, and units unless the posting is blank
 unfoldable pub posting-of : List ℕ → Result Posting-said PostingFault
 posting-of line =
     and-then fault.Name (account-at (field-at line 0)) (λ account.
-      cond (missing (field-at line (field-end line 0)))
-        (Ok (record { account = account; units = None }))
-        (and-then (λ f. f) (units-at line (field-end line 0)) (λ u. Ok (record { account = account; units = Some u }))))
+    cond (missing (field-at line (field-end line 0)))
+    (Ok (record { account = account; units = None }))
+    (and-then (λ f. f) (units-at line (field-end line 0)) (λ u. Ok (record { account = account; units = Some u }))))

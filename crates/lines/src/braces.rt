@@ -10,11 +10,18 @@ ghost use Rattle.lines.specs.Braces.{separates, before-separator, is-word, two
 ghost use Rattle.lines.specs.Shapes.{words-seen, shape-seen};
 use crate::directive::Braces;
 use crate::directive::Cost;
-use crate::fault::{CostFault, CostFromDate, CostFromName, CostFromNumber};
+use crate::fault::CostFault;
+use crate::fault::CostFromDate;
+use crate::fault::CostFromName;
+use crate::fault::CostFromNumber;
 use crate::shapes::Shape;
 use crate::shapes::Words;
 use bytes::ByteClass;
-use bytes::{after, all_of, byte_at, front, run_of};
+use bytes::after;
+use bytes::all_of;
+use bytes::byte_at;
+use bytes::front;
+use bytes::run_of;
 use fields::date::read_date;
 use fields::field::Field;
 use fields::name::read_commodity_name;
@@ -54,18 +61,31 @@ fn split_words<'a>(part: Field<'a>) -> Option<Words<'a>>
 {
     let n = run_of(ByteClass::Except(b' '), part.text);
     let start = n + run_of(ByteClass::Space, after(part.text, n));
-    let commodity = Field { text: after(part.text, start), place: part.place + start };
+    let commodity = Field {
+        text: after(part.text, start),
+        place: part.place + start,
+    };
     if n < 1 || !is_one_word(commodity.text) {
         return None;
     }
-    Some(Words { number: Field { text: front(part.text, n), place: part.place }, commodity })
+    Some(Words {
+        number: Field {
+            text: front(part.text, n),
+            place: part.place,
+        },
+        commodity,
+    })
 }
 
 // A date's part has no space in it.
 fn one_word<'a>(part: Field<'a>) -> Option<Field<'a>>
     ensures { λ r. ⌜ mapped seen r ≡ word-at (seen (part .entry)) ⌝ }
 {
-    if is_one_word(part.text) { Some(part) } else { None }
+    if is_one_word(part.text) {
+        Some(part)
+    } else {
+        None
+    }
 }
 
 // A cost, a comma and a space at the index n, and a date.
@@ -73,8 +93,14 @@ fn split_parts<'a>(part: Field<'a>, n: usize) -> Option<Shape<'a>>
     requires { ⌜ part .place < 2 ^ 32 ⌝ ∗ ⌜ n < length (now (part .text)) ⌝ }
     ensures { λ r. ⌜ mapped shape-seen r ≡ two-parts (seen (part .entry)) n ⌝ }
 {
-    let words = split_words(Field { text: front(part.text, n), place: part.place })?;
-    let date = one_word(Field { text: after(part.text, n + 2), place: part.place + (n + 2) })?;
+    let words = split_words(Field {
+        text: front(part.text, n),
+        place: part.place,
+    })?;
+    let date = one_word(Field {
+        text: after(part.text, n + 2),
+        place: part.place + (n + 2),
+    })?;
     Some(Shape::Both(words, date))
 }
 
@@ -111,7 +137,11 @@ fn read_cost<'a>(words: Words<'a>, brace: usize) -> Result<Cost<'a>, CostFault>
         return Err(CostFault::Braces(brace));
     }
     let commodity = read_commodity_name(words.commodity)?;
-    Ok(Cost { number: words.number, hundredths: amount.hundredths(), commodity })
+    Ok(Cost {
+        number: words.number,
+        hundredths: amount.hundredths(),
+        commodity,
+    })
 }
 
 fn read_lot_date(part: Field<'_>) -> Result<u32, CostFault>

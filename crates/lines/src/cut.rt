@@ -5,7 +5,9 @@ ghost use lib.ListN.{length};
 ghost use Rattle.fields.specs.Spots.{seen};
 ghost use Rattle.lines.specs.Cuts.{rest-at, field-at, field-end};
 use bytes::ByteClass;
-use bytes::{after, front, run_of};
+use bytes::after;
+use bytes::front;
+use bytes::run_of;
 use fields::field::Field;
 
 // A field, and the index at which it ends in its line.
@@ -23,7 +25,10 @@ pub(crate) fn rest_from<'a>(line: &'a [u8], from: usize) -> Field<'a>
     ensures behind { λ r. ⌜ from + 1 ≤ r .place ⌝ }
 {
     let start = from + run_of(ByteClass::Space, after(line, from));
-    Field { text: after(line, start), place: start + 1 }
+    Field {
+        text: after(line, start),
+        place: start + 1,
+    }
 }
 
 // The first field at or after `from`.
@@ -36,5 +41,11 @@ pub(crate) fn next_field<'a>(line: &'a [u8], from: usize) -> Cut<'a>
 {
     let rest = rest_from(line, from);
     let n = run_of(ByteClass::Except(b' '), rest.text);
-    Cut { field: Field { text: front(rest.text, n), place: rest.place }, end: rest.place - 1 + n }
+    Cut {
+        field: Field {
+            text: front(rest.text, n),
+            place: rest.place,
+        },
+        end: rest.place - 1 + n,
+    }
 }

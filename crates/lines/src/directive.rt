@@ -53,10 +53,30 @@ pub struct Posting<'a> {
 #[derive(Clone, Copy)]
 pub enum Directive<'a> {
     BookingMethod(Method),
-    Commodity { date: u32, name: Field<'a> },
-    Open { date: u32, account: Field<'a>, commodity: Option<Field<'a>> },
-    Close { date: u32, account: Field<'a> },
-    Balance { date: u32, account: Field<'a>, number: Field<'a>, hundredths: i32, commodity: Field<'a> },
-    Transaction { date: u32, flag: Flag, text: Field<'a> },
+    Commodity {
+        date: u32,
+        name: Field<'a>,
+    },
+    Open {
+        date: u32,
+        account: Field<'a>,
+        commodity: Option<Field<'a>>,
+    },
+    Close {
+        date: u32,
+        account: Field<'a>,
+    },
+    Balance {
+        date: u32,
+        account: Field<'a>,
+        number: Field<'a>,
+        hundredths: i32,
+        commodity: Field<'a>,
+    },
+    Transaction {
+        date: u32,
+        flag: Flag,
+        text: Field<'a>,
+    },
     Posting(Posting<'a>),
 }

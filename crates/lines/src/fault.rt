@@ -163,14 +163,46 @@ impl DirectiveFault {
         ensures { λ r. ⌜ r ≡ fault-on line self ⌝ }
     {
         match self {
-            DirectiveFault::WrongByte(place) => Fault { refusal: Refusal::WrongByte, line, place },
-            DirectiveFault::Form(place) => Fault { refusal: Refusal::UnknownForm, line, place },
-            DirectiveFault::Number(f) => Fault { refusal: Refusal::BadNumber, line, place: f.place },
-            DirectiveFault::Name(NameFault::Account(place)) => Fault { refusal: Refusal::BadAccountName, line, place },
-            DirectiveFault::Name(NameFault::Commodity(place)) => Fault { refusal: Refusal::BadCommodityName, line, place },
-            DirectiveFault::Date(f) => Fault { refusal: Refusal::BadDate, line, place: f.place },
-            DirectiveFault::Quote(f) => Fault { refusal: Refusal::BadQuotedText, line, place: f.place },
-            DirectiveFault::Braces(place) => Fault { refusal: Refusal::BadBraces, line, place },
+            DirectiveFault::WrongByte(place) => Fault {
+                refusal: Refusal::WrongByte,
+                line,
+                place,
+            },
+            DirectiveFault::Form(place) => Fault {
+                refusal: Refusal::UnknownForm,
+                line,
+                place,
+            },
+            DirectiveFault::Number(f) => Fault {
+                refusal: Refusal::BadNumber,
+                line,
+                place: f.place,
+            },
+            DirectiveFault::Name(NameFault::Account(place)) => Fault {
+                refusal: Refusal::BadAccountName,
+                line,
+                place,
+            },
+            DirectiveFault::Name(NameFault::Commodity(place)) => Fault {
+                refusal: Refusal::BadCommodityName,
+                line,
+                place,
+            },
+            DirectiveFault::Date(f) => Fault {
+                refusal: Refusal::BadDate,
+                line,
+                place: f.place,
+            },
+            DirectiveFault::Quote(f) => Fault {
+                refusal: Refusal::BadQuotedText,
+                line,
+                place: f.place,
+            },
+            DirectiveFault::Braces(place) => Fault {
+                refusal: Refusal::BadBraces,
+                line,
+                place,
+            },
         }
     }
 }

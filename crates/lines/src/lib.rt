@@ -2,9 +2,9 @@
 mod braces;
 mod cut;
 pub mod directive;
-// mod directives;
+mod directives;
 pub mod fault;
-// pub mod journal;
-// pub mod line;
+pub mod journal;
+pub mod line;
 mod postings;
 mod shapes;

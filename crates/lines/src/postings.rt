@@ -11,11 +11,19 @@ use crate::cut::next_field;
 use crate::directive::Braces;
 use crate::directive::Posting;
 use crate::directive::Units;
-use crate::fault::{PostingFault, PostingFromCost, PostingFromName, PostingFromNumber, PostingFromPlace};
+use crate::fault::PostingFault;
+use crate::fault::PostingFromCost;
+use crate::fault::PostingFromName;
+use crate::fault::PostingFromNumber;
+use crate::fault::PostingFromPlace;
 use bytes::ByteClass;
-use bytes::{after, byte_at, front, run_of};
+use bytes::after;
+use bytes::byte_at;
+use bytes::front;
+use bytes::run_of;
 use fields::field::Field;
-use fields::name::{read_account_name, read_commodity_name};
+use fields::name::read_account_name;
+use fields::name::read_commodity_name;
 use fields::number::read_number;
 use fields::quoted::ends_field;
 
@@ -25,7 +33,11 @@ pub(crate) fn read_end(line: &[u8], from: usize) -> Result<(), usize>
     ensures { λ r. ⌜ r ≡ ends-at (now (line .entry)) from ⌝ }
 {
     let extra = next_field(line, from);
-    if extra.field.text.len() == 0 { Ok(()) } else { Err(extra.field.place) }
+    if extra.field.text.len() == 0 {
+        Ok(())
+    } else {
+        Err(extra.field.place)
+    }
 }
 
 // Braces that open at a place, up to the end of the line.
@@ -42,7 +54,13 @@ fn read_braces<'a>(line: &'a [u8], brace: usize) -> Result<Option<Braces<'a>>, P
     if !ends_field(after(line, behind)) {
         return Err(PostingFault::Braces(brace));
     }
-    let braces = read_inside(Field { text: front(body, n), place: brace + 1 }, brace)?;
+    let braces = read_inside(
+        Field {
+            text: front(body, n),
+            place: brace + 1,
+        },
+        brace,
+    )?;
     read_end(line, behind)?;
     Ok(Some(braces))
 }
@@ -71,7 +89,12 @@ fn read_units<'a>(line: &'a [u8], from: usize) -> Result<Units<'a>, PostingFault
     let second = next_field(line, first.end);
     let commodity = read_commodity_name(second.field)?;
     let braces = read_lot(line, second.end)?;
-    Ok(Units { number: first.field, hundredths: amount.hundredths(), commodity, braces })
+    Ok(Units {
+        number: first.field,
+        hundredths: amount.hundredths(),
+        commodity,
+        braces,
+    })
 }
 
 // A posting line.
@@ -83,8 +106,14 @@ pub(crate) fn read_posting<'a>(line: &'a [u8]) -> Result<Posting<'a>, PostingFau
     let account = read_account_name(first.field)?;
     let second = next_field(line, first.end);
     if second.field.text.len() == 0 {
-        return Ok(Posting { account, units: None });
+        return Ok(Posting {
+            account,
+            units: None,
+        });
     }
     let units = read_units(line, first.end)?;
-    Ok(Posting { account, units: Some(units) })
+    Ok(Posting {
+        account,
+        units: Some(units),
+    })
 }
