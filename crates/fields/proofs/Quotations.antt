@@ -20,6 +20,7 @@ use Rattle.std.proofs.shelf.Lists.{take-append-drop, drop-more, drop-drop, getD
 use Rattle.std.proofs.shelf.Tests.{cases-bool, cases-lt, and-parts, and-from, or-cases, or-left, or-right, not-true, eqb-true, eqb-false, eq-eqb, ne-eqb, le-leb, leb-true, cond-true}
 use Rattle.bytes.specs.Classes.{in-class, run-length}
 use Rattle.bytes.specs.declared.ByteClass.the-variants.{QuotedText}
+use Rattle.bytes.proofs.Runs.{run-passes, run-made}
 use Rattle.fields.specs.Denotes.{Field-ends, Quotes}
 use Rattle.fields.specs.Quoted.{ends-field, quoted-length, quoted-at}
 use Rattle.fields.specs.Results.{map-ok}
@@ -27,19 +28,6 @@ use Rattle.fields.specs.Spots.{Spot, seen}
 use Rattle.fields.specs.declared.fault.QuoteFault.{QuoteFault}
 use Rattle.fields.specs.declared.field.Field.{Field}
 use Rattle.fields.proofs.Options.{none-some, from-cond, from-mapped, from-ok, from-err, mapped-none}
-
--- a run of bytes is of its class, and stops before the first that is not
-run-passes : (p : ℕ → Bool) (xs : List ℕ) → All (λ x. p x ≡ true) (take (leading p xs) xs)
-run-passes p [] = tt
-run-passes p (x ∷ xs) =
-    ⊎-elim
-    (λ (e : p x ≡ true). rw (e, one-add) (e, run-passes p xs))
-    (λ (e : p x ≡ false). rw e tt)
-    (cases-bool (p x))
-
-run-stops : (p : ℕ → Bool) (xs : List ℕ) (c : ℕ) (rest : List ℕ) → All (λ x. p x ≡ true) xs → p c ≡ false → leading p (xs ++ c ∷ rest) ≡ length xs
-run-stops p [] c rest h e = rw e
-run-stops p (x ∷ xs) c rest h e = rw (h .0, run-stops p xs c rest (h .1) e, one-add)
 
 plain-byte : (b : ℕ) → in-class QuotedText b ≡ true → (b ≡ 34 → ⊥) × (b ≡ 92 → ⊥)
 plain-byte b e =
@@ -65,7 +53,7 @@ at-byte xs n e =
     within : n < length xs
     within = ⊎-elim (λ (h : n < length xs). h) (λ (h : length xs ≤ n). let z = getD-past xs n 0 h in absurd (omega arith)) (cases-lt n (length xs))
 
-ends-sound : (rest : List ℕ) → ends-field rest ≡ true → Field-ends rest
+pub ends-sound : (rest : List ℕ) → ends-field rest ≡ true → Field-ends rest
 ends-sound [] e = tt
 ends-sound (b ∷ bs) e =
     ⊎-elim
@@ -73,7 +61,7 @@ ends-sound (b ∷ bs) e =
     (λ (s : eqb b 32 ≡ true). eqb-true b 32 s)
     (or-cases _ _ e)
 
-ends-complete : (rest : List ℕ) → Field-ends rest → ends-field rest ≡ true
+pub ends-complete : (rest : List ℕ) → Field-ends rest → ends-field rest ≡ true
 ends-complete [] h = refl
 ends-complete (b ∷ bs) h = or-right _ _ (eq-eqb b 32 h)
 
@@ -101,7 +89,7 @@ by-run b bs e =
       ends = ends-sound _ (closed .1);
     }
 
-quoted-sound : (t : List ℕ) (n : ℕ) → quoted-length t ≡ Some n → Quotes t (take n (drop 1 t)) (drop (n + 2) t)
+pub quoted-sound : (t : List ℕ) (n : ℕ) → quoted-length t ≡ Some n → Quotes t (take n (drop 1 t)) (drop (n + 2) t)
 quoted-sound [] n e = none-some e
 quoted-sound (b ∷ bs) n e =
     let k = run-length QuotedText bs in
@@ -109,7 +97,7 @@ quoted-sound (b ∷ bs) n e =
     let same : k ≡ n = grind arith in
     subst (λ (m : ℕ). Quotes (b ∷ bs) (take m bs) (drop (m + 2) (b ∷ bs))) same (by-run b bs (c .0))
 
-behind : (content more : List ℕ) → drop (length content + 2) (34 ∷ (content ++ 34 ∷ more)) ≡ more
+pub behind : (content more : List ℕ) → drop (length content + 2) (34 ∷ (content ++ 34 ∷ more)) ≡ more
 behind content more =
     let two : length content + 2 ≡ suc (length content + 1) = omega arith in
     ap (λ (k : ℕ). drop k (34 ∷ (content ++ 34 ∷ more))) two
@@ -123,7 +111,7 @@ complete : (content more : List ℕ) → All (λ b. (b ≡ 34 → ⊥) × (b ≡
 complete content more p s f =
     let t = 34 ∷ (content ++ 34 ∷ more) in
     let n = run-length QuotedText (content ++ 34 ∷ more) in
-    let k : n ≡ length content = run-stops (in-class QuotedText) content 34 more (plain-all content p) refl in
+    let k : n ≡ length content = run-made (in-class QuotedText) content (34 ∷ more) (plain-all content p) refl in
     let tests : quoted t (length content) ≡ true =
     and-from _ _ refl
     (and-from _ _
@@ -131,7 +119,7 @@ complete content more p s f =
     (and-from _ _ (eq-eqb _ _ (closing content more)) (ap ends-field (behind content more) ∙ ends-complete more f))) in
     cond-true _ (Some n) None (ap (quoted t) k ∙ tests) ∙ ap Some k
 
-quoted-complete : (t content more : List ℕ) → Quotes t content more → quoted-length t ≡ Some (length content)
+pub quoted-complete : (t content more : List ℕ) → Quotes t content more → quoted-length t ≡ Some (length content)
 quoted-complete t content more q = ap quoted-length (q .spelled) ∙ complete content more (q .plain) (q .short) (q .ends)
 
 pub quotes-exactly : (r : Result Field QuoteFault) (s : Spot) → map-ok seen r ≡ quoted-at s → Cases r (λ f. (more : List ℕ) × Quotes (s .text) (f .text .now) more) (λ _. (content : List ℕ) (more : List ℕ) → Quotes (s .text) content more → ⊥)
