@@ -1,2 +1,7 @@
 pub mod Separators
 pub mod Journals
+pub mod Fronts
+pub mod Steps
+pub mod Dated
+pub mod Texts
+pub mod DirectiveForms

@@ -8,3 +8,4 @@ pub mod Directives
 pub mod Quotes
 pub mod Lines
 pub mod Journals
+pub mod Grammar
