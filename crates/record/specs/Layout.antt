@@ -1,11 +1,17 @@
 -- The booking record byte by byte: a header of 24 bytes, then rows of 36 bytes. Assumes nothing.
+use mathlib.Core.Bool.{cond}
 use mathlib.Core.List.{List, [], _∷_, _++_}
 use Prim.Native.Nat.{ℕ, _+_, _*_, _/_, _%_}
+use lib.Dec.{leb}
 use lib.IntN.{ℤ}
 use lib.ListN.{length, take, drop}
 use mir.Val.{ofZ}
 use mir.Syntax.{w32}
 use Rattle.std.specs.shelf.Lists.{joined}
+use Rattle.std.specs.declared.result.Result.{Result}
+use Rattle.std.specs.declared.result.Result.the-variants.{Ok, Err}
+use Rattle.refusal.specs.declared.Refusal.{Refusal}
+use Rattle.refusal.specs.declared.Refusal.the-variants.{RecordTooShort, TooManyRows}
 use Rattle.record.specs.declared.flag.Flag.{Flag}
 use Rattle.record.specs.declared.flag.Flag.the-variants.{Complete, Incomplete}
 use Rattle.record.specs.declared.header.Header.{Header}
@@ -19,6 +25,13 @@ header-length = 24
 
 abbrev pub row-length : ℕ
 row-length = 36
+
+abbrev pub most-rows : ℕ
+most-rows = 60000
+
+-- the offset of the first free byte behind so many rows
+abbrev pub first-free : ℕ → ℕ
+first-free rows = header-length + row-length * rows
 
 -- a number in one, two or four bytes, lowest byte first
 abbrev pub le1 : ℕ → List ℕ
@@ -75,3 +88,40 @@ row-bytes r =
     ∷ le1 (flag-number (r .flag))
     ∷ le2 0
     ∷ [])
+
+abbrev pub rows-bytes : List Row → List ℕ
+rows-bytes rows = joined row-bytes rows
+
+-- the header of a ledger that has written so many rows
+abbrev pub header-bytes : ℕ → Header → List ℕ
+header-bytes rows h =
+    concat
+    (le2 1
+    ∷ le2 (h .policy)
+    ∷ le4 (h .transactions)
+    ∷ le4 rows
+    ∷ le4 header-length
+    ∷ le4 (first-free rows)
+    ∷ le4 (h .next)
+    ∷ [])
+
+-- bytes with others written over them from an offset on
+abbrev pub write-at : List ℕ → ℕ → List ℕ → List ℕ
+write-at bytes at new = take at bytes ++ (new ++ drop (at + length new) bytes)
+
+-- a record of this length is refused, or has room for the header and so many rows
+abbrev pub room-for : ℕ → ℕ → Result (Unit {0}) Refusal
+room-for size rows = cond (leb (first-free rows) size) (cond (leb rows most-rows) (Ok tt) (Err TooManyRows)) (Err RecordTooShort)
+
+-- the record after the header of a ledger with so many rows is written
+unfoldable pub header-after : ℕ → Header → List ℕ → List ℕ
+header-after rows h book = write-at book 0 (header-bytes rows h)
+
+-- the record after rows are written behind those that were written before, and then the header
+unfoldable pub record-after : ℕ → List Row → Header → List ℕ → List ℕ
+record-after written rows h book = header-after (written + length rows) h (write-at book (first-free written) (rows-bytes rows))
+
+-- what an answer leaves: accepted the one, refused the other
+abbrev pub if-ok : {A T E : Type 0} → Result T E → A → A → A
+if-ok (Ok _) changed kept = changed
+if-ok (Err _) changed kept = kept

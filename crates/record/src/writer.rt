@@ -1,12 +1,22 @@
-// Writing a row and the header's bytes into the part of a record that is lent for them.
+// Writing rows and the header where there is room for them.
+ghost use Prim.Native.Nat.{_+_, _*_, _≤_};
+ghost use mathlib.Core.List.{_++_};
 ghost use mathlib.Core.Path.{_≡_};
-ghost use lib.ListN.{length};
-ghost use Rattle.record.specs.Layout.{row-bytes, row-length};
+ghost use lib.ListN.{length, drop};
+ghost use Rattle.record.specs.Layout.{header-length, row-length, most-rows, row-bytes, rows-bytes, header-bytes, header-after, write-at};
 
 use crate::fields::put;
+use crate::header::Header;
 use crate::rows::Row;
 
-pub fn write_row(out: &mut [u8], row: &Row)
+pub const HEADER_LEN: usize = 24;
+pub const ROW_LEN: usize = 36;
+pub const MOST_ROWS: usize = 60_000;
+
+// The layout that this crate writes.
+const EDITION: u16 = 1;
+
+fn write_row(out: &mut [u8], row: &Row)
     requires { ⌜ length (now out) ≡ row-length ⌝ }
     ensures { λ _. ⌜ now (out .exit) ≡ row-bytes (now (row .entry)) ⌝ }
 {
@@ -21,4 +31,43 @@ pub fn write_row(out: &mut [u8], row: &Row)
     put(out, 24, lot.acquired.to_le_bytes());
     put(out, 28, lot.serial.to_le_bytes());
     put(out, 32, [lot.currency, row.flag.number(), 0, 0]);
+}
+
+fn write_rows(out: &mut [u8], rows: &[Row])
+    requires { ⌜ row-length * length (now rows) ≤ length (now out) ⌝ }
+    ensures { λ _. ⌜ now (out .exit) ≡ rows-bytes (now (rows .entry)) ++ drop (row-length * length (now (rows .entry))) (now (out .entry)) ⌝ }
+{
+    for (i, row) in rows.iter().enumerate() {
+        write_row(&mut out[ROW_LEN * i..ROW_LEN * i + ROW_LEN], row);
+    }
+}
+
+// The part of the record from an offset on is lent to the row writer.
+pub fn put_rows(book: &mut [u8], at: usize, rows: &[Row])
+    requires { ⌜ at + row-length * length (now rows) ≤ length (now book) ⌝ }
+    ensures { λ _. ⌜ now (book .exit) ≡ write-at (now (book .entry)) at (rows-bytes (now (rows .entry))) ⌝ }
+{
+    write_rows(&mut book[at..], rows);
+}
+
+fn write_fields(out: &mut [u8], rows: u32, header: Header)
+    requires size { ⌜ length (now out) ≡ header-length ⌝ }
+    requires few { ⌜ rows ≤ most-rows ⌝ }
+    ensures { λ _. ⌜ now (out .exit) ≡ header-bytes rows header ⌝ }
+{
+    put(out, 0, EDITION.to_le_bytes());
+    put(out, 2, header.policy.to_le_bytes());
+    put(out, 4, header.transactions.to_le_bytes());
+    put(out, 8, rows.to_le_bytes());
+    put(out, 12, (HEADER_LEN as u32).to_le_bytes());
+    put(out, 16, (HEADER_LEN as u32 + ROW_LEN as u32 * rows).to_le_bytes());
+    put(out, 20, header.next.to_le_bytes());
+}
+
+pub fn put_header(book: &mut [u8], rows: u32, header: Header)
+    requires room { ⌜ header-length ≤ length (now book) ⌝ }
+    requires few { ⌜ rows ≤ most-rows ⌝ }
+    ensures { λ _. ⌜ now (book .exit) ≡ header-after rows header (now (book .entry)) ⌝ }
+{
+    write_fields(&mut book[0..HEADER_LEN], rows, header);
 }
