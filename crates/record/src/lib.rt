@@ -3,6 +3,7 @@ ghost use Prim.Native.Nat.{_+_};
 ghost use mathlib.Core.Path.{_≡_};
 ghost use lib.ListN.{length};
 ghost use Rattle.record.specs.Layout.{room-for, header-after, record-after, if-ok};
+ghost use Rattle.record.specs.Promises.{Appended, Headed, When-ok};
 
 mod fields;
 pub mod flag;
@@ -13,7 +14,11 @@ mod writer;
 use header::Header;
 use refusal::Refusal;
 use rows::Row;
-use writer::{HEADER_LEN, MOST_ROWS, ROW_LEN, put_header, put_rows};
+use writer::HEADER_LEN;
+use writer::MOST_ROWS;
+use writer::ROW_LEN;
+use writer::put_header;
+use writer::put_rows;
 
 // Whether a record of this length has room for the header and so many rows, and so many are allowed.
 pub fn room_for(len: usize, rows: usize) -> Result<(), Refusal>
@@ -29,9 +34,15 @@ pub fn room_for(len: usize, rows: usize) -> Result<(), Refusal>
 }
 
 // Writes the rows behind those written before, and then the header; refused, not a byte.
-pub fn append_rows(book: &mut [u8], written: u32, rows: &[Row], header: Header) -> Result<(), Refusal>
+pub fn append_rows(
+    book: &mut [u8],
+    written: u32,
+    rows: &[Row],
+    header: Header,
+) -> Result<(), Refusal>
     ensures answer { λ r. ⌜ r ≡ room-for (length (now (book .entry))) (written + length (now (rows .entry))) ⌝ }
     ensures bytes { λ r. ⌜ now (book .exit) ≡ if-ok r (record-after written (now (rows .entry)) header (now (book .entry))) (now (book .entry)) ⌝ }
+    ensures appended { λ r. ⌜ When-ok r (Appended written (now (rows .entry)) header (now (book .entry)) (now (book .exit))) ⌝ }
 {
     let all = written as usize + rows.len();
     room_for(book.len(), all)?;
@@ -44,6 +55,7 @@ pub fn append_rows(book: &mut [u8], written: u32, rows: &[Row], header: Header) 
 pub fn write_header(book: &mut [u8], written: u32, header: Header) -> Result<(), Refusal>
     ensures answer { λ r. ⌜ r ≡ room-for (length (now (book .entry))) written ⌝ }
     ensures bytes { λ r. ⌜ now (book .exit) ≡ if-ok r (header-after written header (now (book .entry))) (now (book .entry)) ⌝ }
+    ensures headed { λ r. ⌜ When-ok r (Headed written header (now (book .entry)) (now (book .exit))) ⌝ }
 {
     room_for(book.len(), written as usize)?;
     put_header(book, written, header);

@@ -1,7 +1,6 @@
 // The rows of the record as values.
 ghost use mathlib.Core.Path.{_≡_};
 ghost use Rattle.record.specs.Layout.{kind-number, lot-of};
-
 use crate::flag::Flag;
 
 // The lot of a purchase or a draw, as its row states it.
@@ -54,8 +53,12 @@ impl RowKind {
     {
         match self {
             RowKind::Purchase(lot) | RowKind::Draw(lot) => lot,
-            RowKind::Plain | RowKind::FilledBlank =>
-                LotFields { cost: 0, acquired: 0, serial: 0, currency: 0 },
+            RowKind::Plain | RowKind::FilledBlank => LotFields {
+                cost: 0,
+                acquired: 0,
+                serial: 0,
+                currency: 0,
+            },
         }
     }
 }

@@ -4,13 +4,15 @@ ghost use mathlib.Core.List.{_++_};
 ghost use mathlib.Core.Path.{_≡_};
 ghost use lib.ListN.{length, drop};
 ghost use Rattle.record.specs.Layout.{header-length, row-length, most-rows, row-bytes, rows-bytes, header-bytes, header-after, write-at};
-
+ghost use Rattle.record.specs.Promises.{Sized, All-sized};
 use crate::fields::put;
 use crate::header::Header;
 use crate::rows::Row;
 
 pub const HEADER_LEN: usize = 24;
+
 pub const ROW_LEN: usize = 36;
+
 pub const MOST_ROWS: usize = 60_000;
 
 // The layout that this crate writes.
@@ -18,7 +20,8 @@ const EDITION: u16 = 1;
 
 fn write_row(out: &mut [u8], row: &Row)
     requires { ⌜ length (now out) ≡ row-length ⌝ }
-    ensures { λ _. ⌜ now (out .exit) ≡ row-bytes (now (row .entry)) ⌝ }
+    ensures bytes { λ _. ⌜ now (out .exit) ≡ row-bytes (now (row .entry)) ⌝ }
+    ensures sized { λ _. ⌜ Sized (now (row .entry)) ⌝ }
 {
     let lot = row.kind.lot();
     put(out, 0, row.line.to_le_bytes());
@@ -35,7 +38,8 @@ fn write_row(out: &mut [u8], row: &Row)
 
 fn write_rows(out: &mut [u8], rows: &[Row])
     requires { ⌜ row-length * length (now rows) ≤ length (now out) ⌝ }
-    ensures { λ _. ⌜ now (out .exit) ≡ rows-bytes (now (rows .entry)) ++ drop (row-length * length (now (rows .entry))) (now (out .entry)) ⌝ }
+    ensures bytes { λ _. ⌜ now (out .exit) ≡ rows-bytes (now (rows .entry)) ++ drop (row-length * length (now (rows .entry))) (now (out .entry)) ⌝ }
+    ensures sized { λ _. ⌜ All-sized (now (rows .entry)) ⌝ }
 {
     for (i, row) in rows.iter().enumerate() {
         write_row(&mut out[ROW_LEN * i..ROW_LEN * i + ROW_LEN], row);
@@ -45,7 +49,8 @@ fn write_rows(out: &mut [u8], rows: &[Row])
 // The part of the record from an offset on is lent to the row writer.
 pub fn put_rows(book: &mut [u8], at: usize, rows: &[Row])
     requires { ⌜ at + row-length * length (now rows) ≤ length (now book) ⌝ }
-    ensures { λ _. ⌜ now (book .exit) ≡ write-at (now (book .entry)) at (rows-bytes (now (rows .entry))) ⌝ }
+    ensures bytes { λ _. ⌜ now (book .exit) ≡ write-at (now (book .entry)) at (rows-bytes (now (rows .entry))) ⌝ }
+    ensures sized { λ _. ⌜ All-sized (now (rows .entry)) ⌝ }
 {
     write_rows(&mut book[at..], rows);
 }
@@ -60,7 +65,11 @@ fn write_fields(out: &mut [u8], rows: u32, header: Header)
     put(out, 4, header.transactions.to_le_bytes());
     put(out, 8, rows.to_le_bytes());
     put(out, 12, (HEADER_LEN as u32).to_le_bytes());
-    put(out, 16, (HEADER_LEN as u32 + ROW_LEN as u32 * rows).to_le_bytes());
+    put(
+        out,
+        16,
+        (HEADER_LEN as u32 + ROW_LEN as u32 * rows).to_le_bytes(),
+    );
     put(out, 20, header.next.to_le_bytes());
 }
 

@@ -8,4 +8,7 @@ pub returns : need.returns
 returns c =
     let book = c .args .book .now in
     let at = c .args .at in
-    rows-written at (length book - at) (c .args .rows .now) book (c .write-rows .last .out) (take (length book - at) (drop at book)) refl refl (c .write-rows .ensures)
+    record {
+      bytes = rows-written at (length book - at) (c .args .rows .now) book (c .write-rows .last .out) (take (length book - at) (drop at book)) refl refl (c .write-rows .ensures .bytes);
+      sized = c .write-rows .ensures .sized;
+    }
