@@ -1,16 +1,19 @@
 -- What a host finds in the record after a call that was accepted. Assumes nothing.
 use mathlib.Core.Path.{_≡_}
+use mathlib.Core.Logic.{_⊎_}
 use mathlib.Core.List.{List, [], _∷_, _++_}
-use Prim.Native.Nat.{ℕ, _+_, _*_, _^_, _<_}
+use Prim.Native.Nat.{ℕ, _+_, _*_, _^_, _<_, _≤_}
 use lib.IntN.{ℤ}
 use lib.ListN.{length, take, drop}
 use mir.Val.{SFits, toZ}
 use mir.Syntax.{w32}
 use Rattle.std.specs.declared.result.Result.{Result}
 use Rattle.std.specs.declared.result.Result.the-variants.{Ok, Err}
+use Rattle.refusal.specs.Table.{number-of}
+use Rattle.refusal.specs.declared.Refusal.{Refusal}
 use Rattle.record.specs.declared.header.Header.{Header}
 use Rattle.record.specs.declared.rows.Row.{Row}
-use Rattle.record.specs.Layout.{header-length, row-length, first-free, kind-number, flag-number, lot-of, header-bytes, rows-bytes}
+use Rattle.record.specs.Layout.{header-length, row-length, most-rows, first-free, kind-number, flag-number, lot-of, header-bytes, rows-bytes}
 
 -- the number that bytes stand for, the lowest first
 abbrev pub from-le : List ℕ → ℕ
@@ -103,3 +106,8 @@ pub record Headed (written : ℕ) (h : Header) (before after : List ℕ) : Type 
 abbrev pub When-ok : {T E : Type 0} → Result T E → Type 0 → Type 0
 When-ok (Ok _) P = P
 When-ok (Err _) P = Unit {0}
+
+-- the answer by number, as a user sees it: 31 where the record is too short, 32 where it is not and the rows are too many
+abbrev pub Room : ℕ → ℕ → Result (Unit {0}) Refusal → Type 0
+Room size rows (Ok _) = (first-free rows ≤ size) × (rows ≤ most-rows)
+Room size rows (Err e) = ((number-of e ≡ 31) × (size < first-free rows)) ⊎ ((number-of e ≡ 32) × (first-free rows ≤ size) × (most-rows < rows))

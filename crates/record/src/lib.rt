@@ -3,7 +3,7 @@ ghost use Prim.Native.Nat.{_+_};
 ghost use mathlib.Core.Path.{_≡_};
 ghost use lib.ListN.{length};
 ghost use Rattle.record.specs.Layout.{room-for, header-after, record-after, if-ok};
-ghost use Rattle.record.specs.Promises.{Appended, Headed, When-ok};
+ghost use Rattle.record.specs.Promises.{Appended, Headed, Room, When-ok};
 
 mod fields;
 pub mod flag;
@@ -14,16 +14,24 @@ mod writer;
 use header::Header;
 use refusal::Refusal;
 use rows::Row;
-use writer::HEADER_LEN;
-use writer::MOST_ROWS;
-use writer::ROW_LEN;
+use writer::first_free;
 use writer::put_header;
 use writer::put_rows;
 
+// Lengths in bytes, and how many rows a record may have.
+pub const HEADER_LEN: usize = 24;
+
+pub const ROW_LEN: usize = 36;
+
+pub const MOST_ROWS: usize = 60_000;
+
 // Whether a record of this length has room for the header and so many rows, and so many are allowed.
+// Whoever decides before changing anything asks this first: appending then gives the same answer.
 pub fn room_for(len: usize, rows: usize) -> Result<(), Refusal>
-    ensures { λ r. ⌜ r ≡ room-for len rows ⌝ }
+    ensures answer { λ r. ⌜ r ≡ room-for len rows ⌝ }
+    ensures numbers { λ r. ⌜ Room len rows r ⌝ }
 {
+    // Divided rather than multiplied: no count of rows is too large to be judged.
     if len < HEADER_LEN || rows > (len - HEADER_LEN) / ROW_LEN {
         return Err(Refusal::RecordTooShort);
     }
@@ -34,6 +42,7 @@ pub fn room_for(len: usize, rows: usize) -> Result<(), Refusal>
 }
 
 // Writes the rows behind those written before, and then the header; refused, not a byte.
+// Reads nothing of the record, which antt does not let a parameter be named after.
 pub fn append_rows(
     book: &mut [u8],
     written: u32,
@@ -46,7 +55,7 @@ pub fn append_rows(
 {
     let all = written as usize + rows.len();
     room_for(book.len(), all)?;
-    put_rows(book, HEADER_LEN + ROW_LEN * written as usize, rows);
+    put_rows(book, first_free(written) as usize, rows);
     put_header(book, all as u32, header);
     Ok(())
 }

@@ -3,20 +3,24 @@ ghost use Prim.Native.Nat.{_+_, _*_, _≤_};
 ghost use mathlib.Core.List.{_++_};
 ghost use mathlib.Core.Path.{_≡_};
 ghost use lib.ListN.{length, drop};
-ghost use Rattle.record.specs.Layout.{header-length, row-length, most-rows, row-bytes, rows-bytes, header-bytes, header-after, write-at};
+ghost use Rattle.record.specs.Layout.{header-length, row-length, most-rows, first-free, row-bytes, rows-bytes, header-bytes, header-after, write-at};
 ghost use Rattle.record.specs.Promises.{Sized, All-sized};
+use crate::HEADER_LEN;
+use crate::ROW_LEN;
 use crate::fields::put;
 use crate::header::Header;
 use crate::rows::Row;
 
-pub const HEADER_LEN: usize = 24;
-
-pub const ROW_LEN: usize = 36;
-
-pub const MOST_ROWS: usize = 60_000;
-
 // The layout that this crate writes.
 const EDITION: u16 = 1;
+
+// The offset of the first free byte behind so many rows.
+pub fn first_free(rows: u32) -> u32
+    requires { ⌜ rows ≤ most-rows ⌝ }
+    ensures { λ r. ⌜ r ≡ first-free rows ⌝ }
+{
+    HEADER_LEN as u32 + ROW_LEN as u32 * rows
+}
 
 fn write_row(out: &mut [u8], row: &Row)
     requires { ⌜ length (now out) ≡ row-length ⌝ }
@@ -64,12 +68,8 @@ fn write_fields(out: &mut [u8], rows: u32, header: Header)
     put(out, 2, header.policy.to_le_bytes());
     put(out, 4, header.transactions.to_le_bytes());
     put(out, 8, rows.to_le_bytes());
-    put(out, 12, (HEADER_LEN as u32).to_le_bytes());
-    put(
-        out,
-        16,
-        (HEADER_LEN as u32 + ROW_LEN as u32 * rows).to_le_bytes(),
-    );
+    put(out, 12, first_free(0).to_le_bytes());
+    put(out, 16, first_free(rows).to_le_bytes());
     put(out, 20, header.next.to_le_bytes());
 }
 
