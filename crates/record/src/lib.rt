@@ -1,4 +1,5 @@
 // The booking record's bytes (docs/RECORD.md): rows, the header, and the room that both need.
+// Parameters call the record `book`, since `record` is a word of the contracts' language. No call reads what it holds.
 ghost use Prim.Native.Nat.{_+_};
 ghost use mathlib.Core.Path.{_≡_};
 ghost use lib.ListN.{length};
@@ -42,7 +43,6 @@ pub fn room_for(len: usize, rows: usize) -> Result<(), Refusal>
 }
 
 // Writes the rows behind those written before, and then the header; refused, not a byte.
-// Reads nothing of the record, which antt does not let a parameter be named after.
 pub fn append_rows(
     book: &mut [u8],
     written: u32,
