@@ -5,3 +5,4 @@ pub mod Steps
 pub mod Dated
 pub mod Texts
 pub mod DirectiveForms
+pub mod BraceForms

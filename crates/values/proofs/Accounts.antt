@@ -17,7 +17,7 @@ use Rattle.std.proofs.shelf.Ways.{tells, decides-and, decides-or, decides-like,
 use Rattle.bytes.specs.Classes.{in-class}
 use Rattle.bytes.specs.declared.ByteClass.the-variants.{CommodityName, AccountPart}
 use Rattle.values.specs.Names.{is-account-name, is-part, is-root, split-at, onto-first, all-parts, root-and-parts}
-use Rattle.values.specs.Spelling.{Capital, Small-letter, Digit, Starts, Root, Part, joined-by-colons, Account-name}
+use Rattle.values.specs.Spelling.{Capital, Lowercase, Digit, Starts, Root, Part, joined-by-colons, Account-name}
 use Rattle.values.proofs.Commodities.{within-decides, capital-or-digit}
 
 root-decides : (t : List ℕ) → Decides (is-root t) (Root t)
@@ -27,7 +27,7 @@ root-decides t =
     (decides-or _ _ (sameBytes-decides t (codes "Equity"))
     (decides-or _ _ (sameBytes-decides t (codes "Income")) (sameBytes-decides t (codes "Expenses")))))
 
-part-byte : (b : ℕ) → Decides (in-class AccountPart b) (((Capital b ⊎ Small-letter b) ⊎ Digit b) ⊎ (b ≡ 45))
+part-byte : (b : ℕ) → Decides (in-class AccountPart b) (((Capital b ⊎ Lowercase b) ⊎ Digit b) ⊎ (b ≡ 45))
 part-byte b =
     decides-or _ _
     (decides-or _ _ (decides-or _ _ (within-decides 65 90 b) (within-decides 97 122 b)) (within-decides 48 57 b))
@@ -43,7 +43,7 @@ part-decides t =
     (λ h. record { capital-or-digit-first = h .0; letters-digits-hyphens = h .1 })
     (λ p. (p .capital-or-digit-first, p .letters-digits-hyphens))
     (decides-and _ _ (first-of-part t)
-    (decides-by-and (in-class AccountPart) (λ b. ((Capital b ⊎ Small-letter b) ⊎ Digit b) ⊎ (b ≡ 45)) (all-pass (in-class AccountPart)) part-byte refl (λ _ _. refl) t))
+    (decides-by-and (in-class AccountPart) (λ b. ((Capital b ⊎ Lowercase b) ⊎ Digit b) ⊎ (b ≡ 45)) (all-pass (in-class AccountPart)) part-byte refl (λ _ _. refl) t))
 
 parts-decide : (ps : List (List ℕ)) → Decides (all-pass is-part ps) (All Part ps)
 parts-decide ps = decides-by-and is-part Part (all-pass is-part) part-decides refl (λ _ _. refl) ps
@@ -100,12 +100,12 @@ joined-split : (p : List ℕ) (ps : List (List ℕ)) → No-colon p → All No-c
 joined-split p [] h hs = split-alone p h
 joined-split p (q ∷ qs) h hs = split-front p (joined-by-colons q qs) h ∙ ap (λ (x : List (List ℕ)). p ∷ x) (joined-split q qs (hs .0) (hs .1))
 
-byte-no-colon : (b : ℕ) → ((Capital b ⊎ Small-letter b) ⊎ Digit b) ⊎ (b ≡ 45) → eqb b 58 ≡ false
+byte-no-colon : (b : ℕ) → ((Capital b ⊎ Lowercase b) ⊎ Digit b) ⊎ (b ≡ 45) → eqb b 58 ≡ false
 byte-no-colon b h =
     ne-eqb b 58
     (λ e. ⊎-elim (λ l. ⊎-elim (λ a. ⊎-elim (λ u. omega arith) (λ s. omega arith) a) (λ d. omega arith) l) (λ y. omega arith) h)
 
-part-no-colon : (bs : List ℕ) → All (λ b. ((Capital b ⊎ Small-letter b) ⊎ Digit b) ⊎ (b ≡ 45)) bs → No-colon bs
+part-no-colon : (bs : List ℕ) → All (λ b. ((Capital b ⊎ Lowercase b) ⊎ Digit b) ⊎ (b ≡ 45)) bs → No-colon bs
 part-no-colon [] h = tt
 part-no-colon (b ∷ bs) h = (byte-no-colon b (h .0), part-no-colon bs (h .1))
 

@@ -11,8 +11,8 @@ use Rattle.std.specs.shelf.Lists.{All}
 abbrev pub Capital : ℕ → Type 0
 Capital b = (65 ≤ b) × (b ≤ 90)
 
-abbrev pub Small-letter : ℕ → Type 0
-Small-letter b = (97 ≤ b) × (b ≤ 122)
+abbrev pub Lowercase : ℕ → Type 0
+Lowercase b = (97 ≤ b) × (b ≤ 122)
 
 abbrev pub Digit : ℕ → Type 0
 Digit b = (48 ≤ b) × (b ≤ 57)
@@ -36,7 +36,7 @@ Root t = (t ≡ codes "Assets") ⊎ ((t ≡ codes "Liabilities") ⊎ ((t ≡ cod
 -- any other part starts with a capital or a digit and goes on with letters, digits or hyphens
 pub record Part (t : List ℕ) : Type 0 where
   pub capital-or-digit-first : Starts (λ b. Capital b ⊎ Digit b) t
-  pub letters-digits-hyphens : All (λ b. ((Capital b ⊎ Small-letter b) ⊎ Digit b) ⊎ (b ≡ 45)) t
+  pub letters-digits-hyphens : All (λ b. ((Capital b ⊎ Lowercase b) ⊎ Digit b) ⊎ (b ≡ 45)) t
 
 -- the parts joined by colons
 abbrev pub joined-by-colons : List ℕ → List (List ℕ) → List ℕ
