@@ -6,3 +6,4 @@ pub mod Dated
 pub mod Texts
 pub mod DirectiveForms
 pub mod BraceForms
+pub mod PostingForms
