@@ -60,7 +60,7 @@ number-plain t v d =
     let m = d .0 in
     subst (All Plain) (sym (d .2))
     (all-append Plain (sign (m .minus)) (m .whole ++ point (m .decimals)) (sign-plain (m .minus))
-      (all-append Plain (m .whole) (point (m .decimals)) (digits-plain _ (d .1 .whole-digits)) (point-plain _ (d .1 .decimal-digits))))
+    (all-append Plain (m .whole) (point (m .decimals)) (digits-plain _ (d .1 .whole-digits)) (point-plain _ (d .1 .decimal-digits))))
 
 pub date-plain : (t : List ℕ) (n : ℕ) → Writes-date t n → All Plain t
 date-plain t n w =
@@ -68,7 +68,7 @@ date-plain t n w =
     let hyphen : Plain 45 = (omega arith, omega arith) in
     subst (All Plain) (sym (s .spelled))
     (all-append Plain (s .year) (45 ∷ (s .month ++ 45 ∷ s .day)) (digits-plain _ (s .digits .0))
-      (hyphen, all-append Plain (s .month) (45 ∷ s .day) (digits-plain _ (s .digits .1)) (hyphen, digits-plain _ (s .digits .2))))
+    (hyphen, all-append Plain (s .month) (45 ∷ s .day) (digits-plain _ (s .digits .1)) (hyphen, digits-plain _ (s .digits .2))))
 
 pub name-plain : (t : List ℕ) → Commodity-name t → All Plain t
 name-plain t c = all-weaker (λ b. Capital b ⊎ Digit b) Plain (λ b h. ⊎-elim (λ u. (omega arith, omega arith)) (λ d. (omega arith, omega arith)) h) t (c .capitals-or-digits)
@@ -142,15 +142,16 @@ two-words-sound s w e =
     let number-size : length (take a t) ≡ a = omega (arith, length-take a t, leading-le-length (in-class (Except 32)) t) in
     let more : 1 ≤ k = gap-some (drop a t) (run-halts (in-class (Except 32)) t) (omega (arith, ap length rest, word .some)) in
     subst (Two-words s) (f .1)
-    (record
-      { gap = take k (drop a t)
-      ; spelled =
-        sym (take-append-drop a t)
-        ∙ ap (λ (x : List ℕ). take a t ++ x) (sym (take-append-drop k (drop a t)) ∙ ap (λ (x : List ℕ). take k (drop a t) ++ x) (sym rest))
-      ; spaces = pass-spaces _ (run-passes (in-class Space) (drop a t))
-      ; some = omega (arith, size, more)
-      ; number-place = refl
-      ; commodity-place = omega (arith, size, number-size) })
+    (record {
+      gap = take k (drop a t);
+      spelled =
+          sym (take-append-drop a t)
+          ∙ ap (λ (x : List ℕ). take a t ++ x) (sym (take-append-drop k (drop a t)) ∙ ap (λ (x : List ℕ). take k (drop a t) ++ x) (sym rest));
+      spaces = pass-spaces _ (run-passes (in-class Space) (drop a t));
+      some = omega (arith, size, more);
+      number-place = refl;
+      commodity-place = omega (arith, size, number-size);
+    })
 
 two-words-complete : (s : Spot) (w : Words) → Two-words s w → Word (w .number .text) → Word (w .commodity .text) → two-words s ≡ Some w
 unfolding two-words
@@ -162,23 +163,23 @@ two-words-complete s w h n c =
     let a : before 32 t ≡ length nt = ap (before 32) (h .spelled) ∙ run-made (in-class (Except 32)) nt (h .gap ++ ct) (unlike-pass 32 nt (n .unspaced)) rest-ends in
     let behind : drop (before 32 t) t ≡ h .gap ++ ct = ap (λ (m : ℕ). drop m t) a ∙ ap (drop (length nt)) (h .spelled) ∙ drop-at nt (h .gap ++ ct) (length nt) refl in
     let k : run-length Space (drop (before 32 t) t) ≡ length (h .gap) =
-      ap (leading (in-class Space)) behind ∙ run-made (in-class Space) (h .gap) ct (spaces-pass _ (h .spaces)) (opens-halt ct (commodity-opens ct c)) in
+    ap (leading (in-class Space)) behind ∙ run-made (in-class Space) (h .gap) ct (spaces-pass _ (h .spaces)) (opens-halt ct (commodity-opens ct c)) in
     let g : gap-end t ≡ length nt + length (h .gap) = omega (arith, a, k) in
     let name : drop (gap-end t) t ≡ ct =
-      ap (λ (m : ℕ). drop m t) (ap (λ (m : ℕ). before 32 t + m) k)
-      ∙ sym (drop-drop (length (h .gap)) (before 32 t) t)
-      ∙ ap (drop (length (h .gap))) behind
-      ∙ drop-at (h .gap) ct (length (h .gap)) refl in
+    ap (λ (m : ℕ). drop m t) (ap (λ (m : ℕ). before 32 t + m) k)
+    ∙ sym (drop-drop (length (h .gap)) (before 32 t) t)
+    ∙ ap (drop (length (h .gap))) behind
+    ∙ drop-at (h .gap) ct (length (h .gap)) refl in
     let front : take (before 32 t) t ≡ nt = ap (λ (m : ℕ). take m t) a ∙ ap (take (length nt)) (h .spelled) ∙ take-at nt (h .gap ++ ct) (length nt) refl in
     let tests : (leb 1 (before 32 t) && is-word (drop (gap-end t) t)) ≡ true =
-      and-from _ _ (le-leb 1 (before 32 t) (omega (arith, a, n .some))) (ap is-word name ∙ word-test ct (c .some) (c .unspaced)) in
+    and-from _ _ (le-leb 1 (before 32 t) (omega (arith, a, n .some))) (ap is-word name ∙ word-test ct (c .some) (c .unspaced)) in
     let p : s .place + gap-end t ≡ w .commodity .place = omega (arith, g, h .commodity-place) in
     cond-true _ (Some (words-of s)) None tests
     ∙ ap Some
-      (ap (λ (x : List ℕ). record { number = record { text = x; place = s .place }; commodity = words-of s .commodity }) front
-      ∙ ap (λ (x : ℕ). record { number = record { text = nt; place = x }; commodity = words-of s .commodity }) (sym (h .number-place))
-      ∙ ap (λ (x : List ℕ). record { number = w .number; commodity = record { text = x; place = s .place + gap-end t } }) name
-      ∙ ap (λ (x : ℕ). record { number = w .number; commodity = record { text = ct; place = x } }) p)
+    (ap (λ (x : List ℕ). record { number = record { text = x; place = s .place }; commodity = words-of s .commodity }) front
+    ∙ ap (λ (x : ℕ). record { number = record { text = nt; place = x }; commodity = words-of s .commodity }) (sym (h .number-place))
+    ∙ ap (λ (x : List ℕ). record { number = w .number; commodity = record { text = x; place = s .place + gap-end t } }) name
+    ∙ ap (λ (x : ℕ). record { number = w .number; commodity = record { text = ct; place = x } }) p)
   where
     gap-halts : (gap ct : List ℕ) → Spaces gap → 1 ≤ length gap → Halts (in-class (Except 32)) (gap ++ ct)
     gap-halts [] ct s l = absurd (omega arith)
@@ -198,19 +199,20 @@ cost-sound brace s w c h e =
     ⊎-elim
     (λ (y : has-minus (w .number .text) ≡ true). err-ok (sym (cond-true _ _ _ y) ∙ a .2))
     (λ (n : has-minus (w .number .text) ≡ false).
-      let b = from-and-then fault.Name (commodity-at (w .commodity)) (λ (m : Spot). Ok (record { number = w .number; hundredths = a .0; commodity = m })) c (sym (cond-false _ _ _ n) ∙ a .2) in
-      let m = from-commodity (w .commodity) (b .0) (b .1) in
-      subst (Cost-form (s .place) (s .text)) (ap (λ (x : Spot). record { number = w .number; hundredths = a .0; commodity = x }) (m .0) ∙ same-ok (b .2))
-      (record
-        { gap = h .gap
-        ; spelled = h .spelled
-        ; spaces = h .spaces
-        ; some = h .some
-        ; denotes = denotes
-        ; unsigned = no-minus (w .number .text) n (some-number (w .number .text) (a .0) denotes)
-        ; name = m .1
-        ; number-place = h .number-place
-        ; name-place = h .commodity-place }))
+    let b = from-and-then fault.Name (commodity-at (w .commodity)) (λ (m : Spot). Ok (record { number = w .number; hundredths = a .0; commodity = m })) c (sym (cond-false _ _ _ n) ∙ a .2) in
+    let m = from-commodity (w .commodity) (b .0) (b .1) in
+    subst (Cost-form (s .place) (s .text)) (ap (λ (x : Spot). record { number = w .number; hundredths = a .0; commodity = x }) (m .0) ∙ same-ok (b .2))
+    (record {
+      gap = h .gap;
+      spelled = h .spelled;
+      spaces = h .spaces;
+      some = h .some;
+      denotes = denotes;
+      unsigned = no-minus (w .number .text) n (some-number (w .number .text) (a .0) denotes);
+      name = m .1;
+      number-place = h .number-place;
+      name-place = h .commodity-place;
+    }))
     (cases-bool (has-minus (w .number .text)))
   where
     no-minus : (t : List ℕ) → has-minus t ≡ false → 1 ≤ length t → Starts (λ b. b ≡ 45 → ⊥) t
@@ -261,12 +263,12 @@ split-there [] l = absurd (omega arith)
 split-there (b ∷ bs) l =
     ⊎-elim
     (λ (e : (eqb b 44 && eqb (getD bs 0 0) 32) ≡ true).
-      let p = and-parts (eqb b 44) _ e in
-      rw e (here b bs (eqb-true _ _ (p .0)) (eqb-true _ _ (p .1))))
+    let p = and-parts (eqb b 44) _ e in
+    rw e (here b bs (eqb-true _ _ (p .0)) (eqb-true _ _ (p .1))))
     (λ (e : (eqb b 44 && eqb (getD bs 0 0) 32) ≡ false).
-      let z = simp (e, one-add) at l in
-      let two : suc (before-separator bs) + 2 ≡ suc (before-separator bs + 2) = omega arith in
-      rw (e, one-add, two) (ap (λ (x : List ℕ). b ∷ x) (split-there bs (omega arith))))
+    let z = simp (e, one-add) at l in
+    let two : suc (before-separator bs) + 2 ≡ suc (before-separator bs + 2) = omega arith in
+    rw (e, one-add, two) (ap (λ (x : List ℕ). b ∷ x) (split-there bs (omega arith))))
     (cases-bool (eqb b 44 && eqb (getD bs 0 0) 32))
   where
     here : (b : ℕ) (bs : List ℕ) → b ≡ 44 → getD bs 0 0 ≡ 32 → b ∷ bs ≡ 44 ∷ (32 ∷ drop 2 (b ∷ bs))
@@ -298,9 +300,9 @@ unfolding one-part
 single-sound brace s b e =
     ⊎-elim
     (λ (y : is-word (s .text) ≡ true).
-      let g = sym (ap (inside-by brace) (cond-true _ (Some (date-part s)) _ y)) ∙ e in
-      let a = from-and-then (λ (f : CostFault). f) (date-in s) (λ (d : ℕ). Ok (date d)) b g in
-      subst (Braces-form (s .place) (s .text)) (same-ok (a .2)) (from-date-in s (a .0) (a .1)))
+    let g = sym (ap (inside-by brace) (cond-true _ (Some (date-part s)) _ y)) ∙ e in
+    let a = from-and-then (λ (f : CostFault). f) (date-in s) (λ (d : ℕ). Ok (date d)) b g in
+    subst (Braces-form (s .place) (s .text)) (same-ok (a .2)) (from-date-in s (a .0) (a .1)))
     (λ (n : is-word (s .text) ≡ false). costs (two-words s) refl (sym (ap (inside-by brace) (cond-false _ _ (mapped cost-part (two-words s)) n)) ∙ e))
     (cases-bool (is-word (s .text)))
   where
@@ -330,12 +332,13 @@ double-sound brace s b l e = words (two-words first) refl e
         let a = from-and-then (λ (f : CostFault). f) (cost-in brace w) (λ (c : Cost-said). and-then (λ (f : CostFault). f) (date-in x) (λ (d : ℕ). Ok (cost-and-date c d))) b g in
         let z = from-and-then (λ (f : CostFault). f) (date-in x) (λ (d : ℕ). Ok (cost-and-date (a .0) d)) b (a .2) in
         let wrote : Writes-date (second .text) (z .0) = from-date-in second (z .0) (ap date-in (k .1) ∙ z .1) in
-        subst (Braces-form (s .place) (s .text)) (same-ok (z .2))
-        ( first .text
-        , second .text
-        , split-there (s .text) l
-        , cost-sound brace first w (a .0) (two-words-sound first w f) (a .1)
-        , wrote)
+        subst (Braces-form (s .place) (s .text)) (same-ok (z .2)) (
+          first .text,
+          second .text,
+          split-there (s .text) l,
+          cost-sound brace first w (a .0) (two-words-sound first w f) (a .1),
+          wrote,
+        )
 
     words : (o : Option Words) → two-words first ≡ o → inside-by brace (bind o (λ w. mapped (λ d. both-parts w d) (word-at second))) ≡ Ok b → Braces-form (s .place) (s .text) b
     words None f g = err-ok g
@@ -346,15 +349,15 @@ unfolding inside shape
 inside-sound brace s b e =
     ⊎-elim
     (λ (m : missing s ≡ true).
-      subst (Braces-form (s .place) (s .text)) (same-ok (sym (ap (inside-by brace) (cond-true _ (Some no-part) _ m)) ∙ e)) (nil-from-length (s .text) (eqb-true _ _ m)))
+    subst (Braces-form (s .place) (s .text)) (same-ok (sym (ap (inside-by brace) (cond-true _ (Some no-part) _ m)) ∙ e)) (nil-from-length (s .text) (eqb-true _ _ m)))
     (λ (m : missing s ≡ false).
-      let g = sym (ap (inside-by brace) (cond-false _ (Some no-part) parts m)) ∙ e in
-      ⊎-elim
-      (λ (y : ltb (before-separator (s .text)) (length (s .text)) ≡ true).
-        double-sound brace s b (ltb-true _ _ y) (sym (ap (inside-by brace) (cond-true _ (two-parts s (before-separator (s .text))) (one-part s) y)) ∙ g))
-      (λ (n : ltb (before-separator (s .text)) (length (s .text)) ≡ false).
-        single-sound brace s b (sym (ap (inside-by brace) (cond-false _ (two-parts s (before-separator (s .text))) (one-part s) n)) ∙ g))
-      (cases-bool (ltb (before-separator (s .text)) (length (s .text)))))
+    let g = sym (ap (inside-by brace) (cond-false _ (Some no-part) parts m)) ∙ e in
+    ⊎-elim
+    (λ (y : ltb (before-separator (s .text)) (length (s .text)) ≡ true).
+    double-sound brace s b (ltb-true _ _ y) (sym (ap (inside-by brace) (cond-true _ (two-parts s (before-separator (s .text))) (one-part s) y)) ∙ g))
+    (λ (n : ltb (before-separator (s .text)) (length (s .text)) ≡ false).
+    single-sound brace s b (sym (ap (inside-by brace) (cond-false _ (two-parts s (before-separator (s .text))) (one-part s) n)) ∙ g))
+    (cases-bool (ltb (before-separator (s .text)) (length (s .text)))))
     (cases-bool (missing s))
   where
     parts : Option Shape
@@ -387,8 +390,8 @@ pub cost-unlike : (c : ℕ) → (Plain c → ⊥) → (c ≡ 32 → ⊥) → (p 
 cost-unlike c n m p t k h =
     subst (All (λ (b : ℕ). b ≡ c → ⊥)) (sym (h .spelled))
     (all-append (λ b. b ≡ c → ⊥) (k .number .text) (h .gap ++ k .commodity .text)
-      (plain-unlike c n _ (number-plain _ _ (h .denotes)))
-      (all-append (λ b. b ≡ c → ⊥) (h .gap) (k .commodity .text) (spaces-unlike c m _ (h .spaces)) (plain-unlike c n _ (name-plain _ (h .name)))))
+    (plain-unlike c n _ (number-plain _ _ (h .denotes)))
+    (all-append (λ b. b ≡ c → ⊥) (h .gap) (k .commodity .text) (spaces-unlike c m _ (h .spaces)) (plain-unlike c n _ (name-plain _ (h .name)))))
 
 cost-some : (p : ℕ) (t : List ℕ) (k : Cost-said) → Cost-form p t k → 1 ≤ length t
 cost-some p t k h = omega (arith, ap length (h .spelled), length-append (k .number .text) (h .gap ++ k .commodity .text), length-append (h .gap) (k .commodity .text), h .some)
@@ -403,9 +406,9 @@ shape-double s a b c e h w =
     let l : ltb (before-separator t) (length t) ≡ true = lt-ltb _ _ (omega (arith, n, size)) in
     let front : take (before-separator t) t ≡ a = ap (λ (k : ℕ). take k t) n ∙ ap (take (length a)) e ∙ take-at a (44 ∷ (32 ∷ b)) (length a) refl in
     let back : drop (before-separator t + 2) t ≡ b =
-      ap (λ (k : ℕ). drop (k + 2) t) n ∙ sym (drop-drop 2 (length a) t) ∙ ap (λ (x : List ℕ). drop 2 (drop (length a) x)) e ∙ ap (drop 2) (drop-at a (44 ∷ (32 ∷ b)) (length a) refl) in
+    ap (λ (k : ℕ). drop (k + 2) t) n ∙ sym (drop-drop 2 (length a) t) ∙ ap (λ (x : List ℕ). drop 2 (drop (length a) x)) e ∙ ap (drop 2) (drop-at a (44 ∷ (32 ∷ b)) (length a) refl) in
     let words : two-words (part-before (before-separator t) s) ≡ Some (words-said c) =
-      ap (λ (x : List ℕ). two-words (record { text = x; place = s .place })) front ∙ cost-words (record { text = a; place = s .place }) c h in
+    ap (λ (x : List ℕ). two-words (record { text = x; place = s .place })) front ∙ cost-words (record { text = a; place = s .place }) c h in
     let word : is-word (drop (before-separator t + 2) t) ≡ true = ap is-word back ∙ word-test b (w .some) (w .unspaced) in
     (part-after (before-separator t + 2) s, rw (m, l, words, word), back)
 
@@ -442,5 +445,5 @@ braces-unlike p t (date d) h = plain-unlike 125 (λ q. omega (arith, q .1)) t (d
 braces-unlike p t (cost-and-date c d) h =
     subst (All (λ (x : ℕ). x ≡ 125 → ⊥)) (sym (h .2))
     (all-append (λ x. x ≡ 125 → ⊥) (h .0) (44 ∷ (32 ∷ h .1))
-      (cost-unlike 125 (λ q. omega (arith, q .1)) (λ z. omega arith) p (h .0) c (h .3))
-      ((λ e. omega arith), ((λ e. omega arith), plain-unlike 125 (λ q. omega (arith, q .1)) (h .1) (date-plain (h .1) d (h .4)))))
+    (cost-unlike 125 (λ q. omega (arith, q .1)) (λ z. omega arith) p (h .0) c (h .3))
+    ((λ e. omega arith), ((λ e. omega arith), plain-unlike 125 (λ q. omega (arith, q .1)) (h .1) (date-plain (h .1) d (h .4)))))

@@ -90,13 +90,13 @@ module _ (line : List ℕ) where
   own-sound from o e =
       ⊎-elim
       (λ (m : missing (at from) ≡ true).
-        subst (Own-form from) (same-ok (sym (cond-true _ _ _ m) ∙ e)) (fields-end (from + 1) (tail from) (none-found line from m)))
+      subst (Own-form from) (same-ok (sym (cond-true _ _ _ m) ∙ e)) (fields-end (from + 1) (tail from) (none-found line from m)))
       (λ (m : missing (at from) ≡ false).
-        let g = sym (cond-false _ _ _ m) ∙ e in
-        let a = from-and-then fault.Name (commodity-at (at from)) (λ (own : Spot). and-then fault.Form (ends-at line (end from)) (λ _. Ok (Some own))) o g in
-        let b = from-and-then fault.Form (ends-at line (end from)) (λ _. Ok (Some (a .0))) o (a .2) in
-        let c = from-commodity (at from) (a .0) (a .1) in
-        subst (Own-form from) (ap Some (c .0) ∙ same-ok (b .2)) (last Commodity-name no-commodity from (b .0) (c .1) (b .1), c .1))
+      let g = sym (cond-false _ _ _ m) ∙ e in
+      let a = from-and-then fault.Name (commodity-at (at from)) (λ (own : Spot). and-then fault.Form (ends-at line (end from)) (λ _. Ok (Some own))) o g in
+      let b = from-and-then fault.Form (ends-at line (end from)) (λ _. Ok (Some (a .0))) o (a .2) in
+      let c = from-commodity (at from) (a .0) (a .1) in
+      subst (Own-form from) (ap Some (c .0) ∙ same-ok (b .2)) (last Commodity-name no-commodity from (b .0) (c .1) (b .1), c .1))
       (cases-bool (missing (at from)))
 
   own-complete : (from : ℕ) (o : Option Spot) → Own-form from o → own-from line from ≡ Ok o
@@ -145,17 +145,18 @@ module _ (line : List ℕ) where
       let z = from-and-then fault.Form (ends-at line (end third)) (λ _. Ok (balance d (a .0) num (b .0) (c .0))) s (c .2) in
       let acc = from-account (at from) (a .0) (a .1) in
       let den = from-number (num .text) (num .place) (b .0) (b .1) in
-      let own = from-commodity (at third) (c .0) (c .1) in
-      ( at from
-      , num
-      , b .0
-      , at third
-      , sym (same-ok (z .2)) ∙ ap (λ (x : Spot). balance d x num (b .0) (c .0)) (sym (acc .0)) ∙ ap (λ (x : Spot). balance d (at from) num (b .0) x) (sym (own .0))
-      , more Account-name no-account from (num ∷ at third ∷ []) (acc .1)
-        (more (λ (t : List ℕ). Denotes t (b .0)) (no-number (b .0)) second (at third ∷ []) den (last Commodity-name no-commodity third (z .0) (own .1) (z .1)))
-      , acc .1
-      , den
-      , own .1)
+      let own = from-commodity (at third) (c .0) (c .1) in (
+        at from,
+        num,
+        b .0,
+        at third,
+        sym (same-ok (z .2)) ∙ ap (λ (x : Spot). balance d x num (b .0) (c .0)) (sym (acc .0)) ∙ ap (λ (x : Spot). balance d (at from) num (b .0) x) (sym (own .0)),
+        more Account-name no-account from (num ∷ at third ∷ []) (acc .1)
+            (more (λ (t : List ℕ). Denotes t (b .0)) (no-number (b .0)) second (at third ∷ []) den (last Commodity-name no-commodity third (z .0) (own .1) (z .1))),
+        acc .1,
+        den,
+        own .1,
+      )
 
   pub balance-complete : (d from : ℕ) (account n : Spot) (v : ℤ) (c : Spot) → Fields (from + 1) (tail from) (account ∷ n ∷ c ∷ []) → Account-name (account .text) → Denotes (n .text) v → Commodity-name (c .text) → balance-from line d from ≡ Ok (balance d account n v c)
   unfolding balance-from

@@ -63,17 +63,19 @@ module _ (line : List ℕ) where
   -- the date and a word in front
   dated-found : (d : ℕ) (word : List ℕ) → (word ≡ [] → ⊥) → asciiDigit (getD line 0 0) ≡ true → Writes-date (field-at line 0 .text) d → word-at .text ≡ word → Dated line d word (drop behind line) (behind + 1)
   dated-found d word some digit w e =
-      record
-      { day = field-at line 0
-      ; keyword = word-at
-      ; front =
-        ( drop (field-end line 0) line
-        , field-end line 0 + 1
-        , found line (λ (t : List ℕ). Writes-date t d) (no-date d) 0 w
-        , (drop behind line, behind + 1, found line (λ (t : List ℕ). t ≡ word) (λ (z : [] ≡ word). some (sym z)) (field-end line 0) e, (refl, refl)))
-      ; first = first-place line (digit-no-space (getD line 0 0) digit)
-      ; writes = w
-      ; says = e }
+      record {
+        day = field-at line 0;
+        keyword = word-at;
+        front = (
+          drop (field-end line 0) line,
+          field-end line 0 + 1,
+          found line (λ (t : List ℕ). Writes-date t d) (no-date d) 0 w,
+          (drop behind line, behind + 1, found line (λ (t : List ℕ). t ≡ word) (λ (z : [] ≡ word). some (sym z)) (field-end line 0) e, (refl, refl)),
+        );
+        first = first-place line (digit-no-space (getD line 0 0) digit);
+        writes = w;
+        says = e;
+      }
     where
       digit-no-space : (b : ℕ) → asciiDigit b ≡ true → b ≡ 32 → ⊥
       digit-no-space b h z = let p = within-decides 48 57 b .0 h in omega arith
@@ -82,18 +84,19 @@ module _ (line : List ℕ) where
   first-digit day rest q d n p w =
       let none : n .gap ≡ [] = nil-from-length (n .gap) (omega (arith, n .place)) in
       let whole : line ≡ (w .0 .year ++ 45 ∷ (w .0 .month ++ 45 ∷ w .0 .day)) ++ rest =
-        n .spelled ∙ ap (λ (g : List ℕ). g ++ (day .text ++ rest)) none ∙ ap (λ (t : List ℕ). t ++ rest) (w .0 .spelled) in
+      n .spelled ∙ ap (λ (g : List ℕ). g ++ (day .text ++ rest)) none ∙ ap (λ (t : List ℕ). t ++ rest) (w .0 .spelled) in
       ap (λ (t : List ℕ). asciiDigit (getD t 0 0)) whole ∙ starts-digit (w .0 .year) _ rest (w .0 .digits .0) (w .0 .lengths .0)
 
   dated-only : (d : ℕ) (word rest : List ℕ) (q : ℕ) → Dated line d word rest q → (asciiDigit (getD line 0 0) ≡ true) × (date-at (field-at line 0 .text) (field-at line 0 .place) ≡ Ok d) × (word-at .text ≡ word) × (drop behind line ≡ rest) × (behind + 1 ≡ q)
   dated-only d word rest q h =
       let o = front-only line 0 (h .day) (h .keyword ∷ []) rest q (h .front) in
-      let p = front-only line (field-end line 0) (h .keyword) [] rest q (o .1) in
-      ( first-digit (h .day) (h .front .0) (h .front .1) d (h .front .2) (h .first) (h .writes)
-      , ap (λ (s : Spot). date-at (s .text) (s .place)) (o .0) ∙ to-date (h .day .text) (h .day .place) d (h .writes)
-      , ap (λ (s : Spot). s .text) (p .0) ∙ h .says
-      , p .1 .0
-      , p .1 .1)
+      let p = front-only line (field-end line 0) (h .keyword) [] rest q (o .1) in (
+        first-digit (h .day) (h .front .0) (h .front .1) d (h .front .2) (h .first) (h .writes),
+        ap (λ (s : Spot). date-at (s .text) (s .place)) (o .0) ∙ to-date (h .day .text) (h .day .place) d (h .writes),
+        ap (λ (s : Spot). s .text) (p .0) ∙ h .says,
+        p .1 .0,
+        p .1 .1,
+      )
 
   -- the word behind the date decides
 
@@ -125,34 +128,34 @@ module _ (line : List ℕ) where
   by-word-sound number d s digit w e =
       by-choice (is (codes "commodity")) (commodity-from line d behind) (from-open d) (Ok s) e
       (λ y c.
-        let f = commodity-sound line d behind s c in
-        subst (Form number line) (sym (f .1)) (rest, q, here (codes "commodity") (omega arith) y, f .2))
+      let f = commodity-sound line d behind s c in
+      subst (Form number line) (sym (f .1)) (rest, q, here (codes "commodity") (omega arith) y, f .2))
       (λ _ e₁.
-        by-choice (is (codes "open")) (open-from line d behind) (from-close d) (Ok s) e₁
-        (λ y c.
-          let f = open-sound line d behind s c in
-          subst (Form number line) (sym (f .2)) (rest, q, here (codes "open") (omega arith) y, f .3))
-        (λ _ e₂.
-          by-choice (is (codes "close")) (close-from line d behind) (from-balance d) (Ok s) e₂
-          (λ y c.
-            let f = close-sound line d behind s c in
-            subst (Form number line) (sym (f .1)) (rest, q, here (codes "close") (omega arith) y, f .2))
-          (λ _ e₃.
-            by-choice (is (codes "balance")) (balance-from line d behind) (from-star d) (Ok s) e₃
-            (λ y c.
-              let f = balance-sound line d behind s c in
-              subst (Form number line) (sym (f .4)) (rest, q, here (codes "balance") (omega arith) y, f .5, f .6, f .7, f .8))
-            (λ _ e₄.
-              by-choice (is (codes "*")) (transaction-from line d Complete behind) (from-flag d) (Ok s) e₄
-              (λ y c.
-                let f = transaction-sound line d Complete behind s c in
-                subst (Form number line) (sym (f .3)) (rest, q, f .1, f .2, here (codes "*") (omega arith) y, f .4, f .5))
-              (λ _ e₅.
-                by-choice (is (codes "!")) (transaction-from line d Incomplete behind) unknown (Ok s) e₅
-                (λ y c.
-                  let f = transaction-sound line d Incomplete behind s c in
-                  subst (Form number line) (sym (f .3)) (rest, q, f .1, f .2, here (codes "!") (omega arith) y, f .4, f .5))
-                (λ _ z. err-ok z))))))
+      by-choice (is (codes "open")) (open-from line d behind) (from-close d) (Ok s) e₁
+      (λ y c.
+      let f = open-sound line d behind s c in
+      subst (Form number line) (sym (f .2)) (rest, q, here (codes "open") (omega arith) y, f .3))
+      (λ _ e₂.
+      by-choice (is (codes "close")) (close-from line d behind) (from-balance d) (Ok s) e₂
+      (λ y c.
+      let f = close-sound line d behind s c in
+      subst (Form number line) (sym (f .1)) (rest, q, here (codes "close") (omega arith) y, f .2))
+      (λ _ e₃.
+      by-choice (is (codes "balance")) (balance-from line d behind) (from-star d) (Ok s) e₃
+      (λ y c.
+      let f = balance-sound line d behind s c in
+      subst (Form number line) (sym (f .4)) (rest, q, here (codes "balance") (omega arith) y, f .5, f .6, f .7, f .8))
+      (λ _ e₄.
+      by-choice (is (codes "*")) (transaction-from line d Complete behind) (from-flag d) (Ok s) e₄
+      (λ y c.
+      let f = transaction-sound line d Complete behind s c in
+      subst (Form number line) (sym (f .3)) (rest, q, f .1, f .2, here (codes "*") (omega arith) y, f .4, f .5))
+      (λ _ e₅.
+      by-choice (is (codes "!")) (transaction-from line d Incomplete behind) unknown (Ok s) e₅
+      (λ y c.
+      let f = transaction-sound line d Incomplete behind s c in
+      subst (Form number line) (sym (f .3)) (rest, q, f .1, f .2, here (codes "!") (omega arith) y, f .4, f .5))
+      (λ _ z. err-ok z))))))
     where
       rest : List ℕ
       rest = drop behind line
@@ -168,34 +171,37 @@ module _ (line : List ℕ) where
   directive-sound number s unspaced e =
       by-choice (asciiDigit (getD line 0 0)) (dated-line line) other (Ok s) e
       (λ digit c.
-        let a = from-and-then fault.Date (date-at (field-at line 0 .text) (field-at line 0 .place)) (λ (d : ℕ). dated-from line d (field-end line 0)) s c in
-        by-word-sound number (a .0) s digit (from-date (field-at line 0 .text) (field-at line 0 .place) (a .0) (a .1)) (a .2))
+      let a = from-and-then fault.Date (date-at (field-at line 0 .text) (field-at line 0 .place)) (λ (d : ℕ). dated-from line d (field-end line 0)) s c in
+      by-word-sound number (a .0) s digit (from-date (field-at line 0 .text) (field-at line 0 .place) (a .0) (a .1)) (a .2))
       (λ _ e₁.
-        by-choice (eqb number 1 && sameBytes (field-at line 0 .text) (codes "option")) (option-from line (field-end line 0)) (Err (fault.Form 1)) (Ok s) e₁
-        (λ t c.
-          let p = and-parts (eqb number 1) _ t in
-          let o = option-sound line (field-end line 0) s c in
-          let w : field-at line 0 .text ≡ codes "option" = sameBytes-decides _ _ .0 (p .1) in
-          subst (Form number line) (sym (o .7))
-          ( eqb-true _ _ (p .0)
-          , ( field-at line 0
-            , o .0
-            , o .3
-            , drop (field-end line 0) line
-            , field-end line 0 + 1
-            , o .1
-            , o .2
-            , o .5
-            , o .6
-            , found line (λ (t : List ℕ). t ≡ codes "option") (λ (z : [] ≡ codes "option"). some-word (codes "option") (omega arith) (sym z)) 0 w
-            , first-place line unspaced
-            , w
-            , o .8
-            , o .9
-            , o .10
-            , o .11
-            , o .12)))
-        (λ _ z. err-ok z))
+      by-choice (eqb number 1 && sameBytes (field-at line 0 .text) (codes "option")) (option-from line (field-end line 0)) (Err (fault.Form 1)) (Ok s) e₁
+      (λ t c.
+      let p = and-parts (eqb number 1) _ t in
+      let o = option-sound line (field-end line 0) s c in
+      let w : field-at line 0 .text ≡ codes "option" = sameBytes-decides _ _ .0 (p .1) in
+      subst (Form number line) (sym (o .7)) (
+        eqb-true _ _ (p .0),
+        (
+          field-at line 0,
+          o .0,
+          o .3,
+          drop (field-end line 0) line,
+          field-end line 0 + 1,
+          o .1,
+          o .2,
+          o .5,
+          o .6,
+          found line (λ (t : List ℕ). t ≡ codes "option") (λ (z : [] ≡ codes "option"). some-word (codes "option") (omega arith) (sym z)) 0 w,
+          first-place line unspaced,
+          w,
+          o .8,
+          o .9,
+          o .10,
+          o .11,
+          o .12,
+        ),
+      ))
+      (λ _ z. err-ok z))
     where
       other : Result Said DirectiveFault
       other = cond (eqb number 1 && sameBytes (field-at line 0 .text) (codes "option")) (option-from line (field-end line 0)) (Err (fault.Form 1))
@@ -220,7 +226,7 @@ module _ (line : List ℕ) where
       let f = next-only line 0 (g .0) (g .3) (g .4) (g .9) in
       let none : g .9 .gap ≡ [] = nil-from-length (g .9 .gap) (omega (arith, g .9 .place, g .10)) in
       let whole : line ≡ codes "option" ++ g .3 =
-        g .9 .spelled ∙ ap (λ (x : List ℕ). x ++ (g .0 .text ++ g .3)) none ∙ ap (λ (x : List ℕ). x ++ g .3) (g .11) in
+      g .9 .spelled ∙ ap (λ (x : List ℕ). x ++ (g .0 .text ++ g .3)) none ∙ ap (λ (x : List ℕ). x ++ g .3) (g .11) in
       let digit : asciiDigit (getD line 0 0) ≡ false = ap (λ (x : List ℕ). asciiDigit (getD x 0 0)) whole in
       let word : sameBytes (field-at line 0 .text) (codes "option") ≡ true = sameBytes-decides _ _ .1 (ap (λ (x : Spot). x .text) (f .0) ∙ g .11) in
       let first : eqb number 1 ≡ true = eq-eqb number 1 (h .0) in
@@ -252,3 +258,28 @@ module _ (line : List ℕ) where
       dated-reads number d (codes "!") (h .0) (h .1) _ (h .4)
       (transaction-complete line d Incomplete behind text (h .2) (h .3) (moved (λ (q : ℕ) (rest : List ℕ). Quoted q rest text (h .2) (h .3)) (h .0) (h .1) (o .3) (o .4) (h .5)) (h .6))
   directive-complete number (posting p) h n = absurd (n p refl)
+
+  -- a line in such a form starts with its first field
+  starts-unspaced : (b : ℕ) → getD line 0 0 ≡ b → (b ≡ 0 → ⊥) → (b ≡ 32 → ⊥) → Starts (λ x. x ≡ 32 → ⊥) line
+  starts-unspaced b e z n = first line (getD line 0 0) refl (λ y. z (sym e ∙ y)) (λ y. n (sym e ∙ y))
+    where
+      first : (t : List ℕ) (c : ℕ) → getD t 0 0 ≡ c → (c ≡ 0 → ⊥) → (c ≡ 32 → ⊥) → Starts (λ x. x ≡ 32 → ⊥) t
+      first [] c e z n = absurd (z (sym e))
+      first (x ∷ xs) c e z n = λ y. n (sym e ∙ y)
+
+  digit-first : asciiDigit (getD line 0 0) ≡ true → Starts (λ x. x ≡ 32 → ⊥) line
+  digit-first h = let p = within-decides 48 57 (getD line 0 0) .0 h in starts-unspaced (getD line 0 0) refl (λ z. omega arith) (λ z. omega arith)
+
+  pub form-first : (number : ℕ) (s : Said) → Form number line s → ((p : Posting-said) → s ≡ posting p → ⊥) → Starts (λ x. x ≡ 32 → ⊥) line
+  form-first number (booking-method m) h n =
+      let g = h .1 in
+      let none : g .9 .gap ≡ [] = nil-from-length (g .9 .gap) (omega (arith, g .9 .place, g .10)) in
+      let whole : line ≡ codes "option" ++ g .3 =
+      g .9 .spelled ∙ ap (λ (x : List ℕ). x ++ (g .0 .text ++ g .3)) none ∙ ap (λ (x : List ℕ). x ++ g .3) (g .11) in
+      starts-unspaced 111 (ap (λ (x : List ℕ). getD x 0 0) whole) (λ z. omega arith) (λ z. omega arith)
+  form-first number (commodity d name) h n = digit-first (dated-only d (codes "commodity") (h .0) (h .1) (h .2) .0)
+  form-first number (opening d account own) h n = digit-first (dated-only d (codes "open") (h .0) (h .1) (h .2) .0)
+  form-first number (closing d account) h n = digit-first (dated-only d (codes "close") (h .0) (h .1) (h .2) .0)
+  form-first number (balance d account m v c) h n = digit-first (dated-only d (codes "balance") (h .0) (h .1) (h .2) .0)
+  form-first number (transaction d flag text) h n = digit-first (dated-only d (flag-sign flag) (h .0) (h .1) (h .4) .0)
+  form-first number (posting p) h n = absurd (n p refl)

@@ -118,22 +118,24 @@ module _ (line : List ℕ) (from : ℕ) where
   pub next-found : missing (field-at line from) ≡ false → Next (from + 1) here (field-at line from) (drop (field-end line from) line) (field-end line from + 1)
   next-found e =
       let some = eqb-false _ _ e in
-      record
-      { gap = take gap-length here
-      ; spelled =
-        sym (take-append-drop gap-length here)
-        ∙ ap (λ (t : List ℕ). take gap-length here ++ t)
-          (sym (take-append-drop (before 32 body) body)
-          ∙ ap (λ (t : List ℕ). t ++ drop (before 32 body) body) (sym text-is)
-          ∙ ap (λ (t : List ℕ). field-text line from ++ t) (sym at-end))
-      ; spaces = pass-spaces _ (run-passes (in-class Space) here)
-      ; word =
-        record
-        { some = positive _ some
-        ; unspaced = pass-unlike 32 _ (subst (All (λ (b : ℕ). in-class (Except 32) b ≡ true)) (sym text-is) (run-passes (in-class (Except 32)) body)) }
-      ; place = omega (arith, start-is, length-take gap-length here, leading-le-length (in-class Space) here)
-      ; ends = subst Field-ends (sym at-end) (halt-ends _ (run-halts (in-class (Except 32)) body))
-      ; behind = omega (arith, end-is, start-is, text-length) }
+      record {
+        gap = take gap-length here;
+        spelled =
+            sym (take-append-drop gap-length here)
+            ∙ ap (λ (t : List ℕ). take gap-length here ++ t)
+            (sym (take-append-drop (before 32 body) body)
+            ∙ ap (λ (t : List ℕ). t ++ drop (before 32 body) body) (sym text-is)
+            ∙ ap (λ (t : List ℕ). field-text line from ++ t) (sym at-end));
+        spaces = pass-spaces _ (run-passes (in-class Space) here);
+        word =
+            record {
+              some = positive _ some;
+              unspaced = pass-unlike 32 _ (subst (All (λ (b : ℕ). in-class (Except 32) b ≡ true)) (sym text-is) (run-passes (in-class (Except 32)) body));
+            };
+        place = omega (arith, start-is, length-take gap-length here, leading-le-length (in-class Space) here);
+        ends = subst Field-ends (sym at-end) (halt-ends _ (run-halts (in-class (Except 32)) body));
+        behind = omega (arith, end-is, start-is, text-length);
+      }
     where
       positive : (n : ℕ) → (n ≡ 0 → ⊥) → 1 ≤ n
       positive n h = ⊎-elim (λ (l : 0 < n). omega arith) (λ (g : n ≤ 0). absurd (h (omega arith))) (cases-lt 0 n)
@@ -144,7 +146,7 @@ module _ (line : List ℕ) (from : ℕ) where
       let none : before 32 body ≡ 0 = omega (arith, text-length, eqb-true _ _ e) in
       let no-body : body ≡ [] = no-word body (run-halts (in-class Space) here) none in
       let all : take gap-length here ≡ here =
-        sym (append-nil (take gap-length here)) ∙ ap (λ (t : List ℕ). take gap-length here ++ t) (sym no-body) ∙ take-append-drop gap-length here in
+      sym (append-nil (take gap-length here)) ∙ ap (λ (t : List ℕ). take gap-length here ++ t) (sym no-body) ∙ take-append-drop gap-length here in
       subst Spaces all (pass-spaces _ (run-passes (in-class Space) here))
     where
       no-word : (t : List ℕ) → Halts (in-class Space) t → before 32 t ≡ 0 → t ≡ []
@@ -163,14 +165,14 @@ module _ (line : List ℕ) (from : ℕ) where
   next-only f rest q n =
       let w = f .text in
       let k : gap-length ≡ length (n .gap) =
-        ap (leading (in-class Space)) (n .spelled) ∙ run-made (in-class Space) (n .gap) (w ++ rest) (spaces-pass _ (n .spaces)) (opens-halt _ (word-opens w rest (n .word))) in
+      ap (leading (in-class Space)) (n .spelled) ∙ run-made (in-class Space) (n .gap) (w ++ rest) (spaces-pass _ (n .spaces)) (opens-halt _ (word-opens w rest (n .word))) in
       let body-is : body ≡ w ++ rest =
-        ap (λ (m : ℕ). drop m here) k ∙ ap (drop (length (n .gap))) (n .spelled) ∙ drop-at (n .gap) (w ++ rest) (length (n .gap)) refl in
+      ap (λ (m : ℕ). drop m here) k ∙ ap (drop (length (n .gap))) (n .spelled) ∙ drop-at (n .gap) (w ++ rest) (length (n .gap)) refl in
       let m : before 32 (w ++ rest) ≡ length w = run-made (in-class (Except 32)) w rest (unlike-pass 32 w (n .word .unspaced)) (ends-halt rest (n .ends)) in
       let text : field-text line from ≡ w =
-        text-is ∙ ap (λ (t : List ℕ). take (before 32 t) t) body-is ∙ ap (λ (j : ℕ). take j (w ++ rest)) m ∙ take-at w rest (length w) refl in
+      text-is ∙ ap (λ (t : List ℕ). take (before 32 t) t) body-is ∙ ap (λ (j : ℕ). take j (w ++ rest)) m ∙ take-at w rest (length w) refl in
       let tail : drop (field-end line from) line ≡ rest =
-        at-end ∙ ap (λ (t : List ℕ). drop (before 32 t) t) body-is ∙ ap (λ (j : ℕ). drop j (w ++ rest)) m ∙ drop-at w rest (length w) refl in
+      at-end ∙ ap (λ (t : List ℕ). drop (before 32 t) t) body-is ∙ ap (λ (j : ℕ). drop j (w ++ rest)) m ∙ drop-at w rest (length w) refl in
       let count : before 32 body ≡ length w = ap (before 32) body-is ∙ m in
       let place : field-start line from + 1 ≡ f .place = omega (arith, start-is, k, n .place) in
       (same-spot _ f text place, tail, omega (arith, end-is, k, count, n .place, n .behind))

@@ -7,3 +7,4 @@ pub mod Texts
 pub mod DirectiveForms
 pub mod BraceForms
 pub mod PostingForms
+pub mod LineForms

@@ -51,7 +51,7 @@ cut-at : (c : ℕ) (t : List ℕ) → before c t < length t → t ≡ take (befo
 cut-at c t l =
     sym (take-append-drop (before c t) t)
     ∙ ap (λ (x : List ℕ). take (before c t) t ++ x)
-      (drop-more t (before c t) 0 l ∙ ap (λ (b : ℕ). b ∷ drop (before c t + 1) t) (byte-there c t l))
+    (drop-more t (before c t) 0 l ∙ ap (λ (b : ℕ). b ∷ drop (before c t + 1) t) (byte-there c t l))
   where
     byte-there : (c : ℕ) (t : List ℕ) → before c t < length t → getD t (before c t) 0 ≡ c
     byte-there c [] l = absurd (omega arith)
@@ -72,23 +72,24 @@ module _ (line : List ℕ) where
       ⊎-elim
       (λ (z : eqb (brace + n) (length line) ≡ true). err-ok (sym (cond-true _ _ (closed line brace n) z) ∙ e))
       (λ (z : eqb (brace + n) (length line) ≡ false).
-        let g = sym (cond-false _ _ (closed line brace n) z) ∙ e in
-        let short : n < length t = strictly n (length t) (leading-le-length (in-class (Except 125)) t) (λ y. eqb-false _ _ z (omega (arith, size))) in
-        ⊎-elim
-        (λ (y : ends-field (drop (brace + n + 1) line) ≡ true).
-          let h = sym (cond-true _ _ _ y) ∙ g in
-          let a = from-and-then posting-from-cost (inside brace (record { text = take n t; place = brace + 1 })) (λ (x : Braces-said). and-then fault.Form (ends-at line (brace + n + 1)) (λ _. Ok (Some x))) b h in
-          let c = from-and-then fault.Form (ends-at line (brace + n + 1)) (λ _. Ok (Some (a .0))) b (a .2) in
-          let behind : drop (n + 1) t ≡ drop (brace + n + 1) line = drop-drop (n + 1) brace line ∙ ap (λ (m : ℕ). drop m line) (omega arith) in
-          ( a .0
-          , take n t
-          , drop (n + 1) t
-          , sym (same-ok (c .2))
-          , cut-at 125 t short
-          , subst Spaces (sym behind) (ends-found line (brace + n + 1) (c .0) (c .1))
-          , inside-sound brace (record { text = take n t; place = brace + 1 }) (a .0) (a .1)))
-        (λ (y : ends-field (drop (brace + n + 1) line) ≡ false). err-ok (sym (cond-false _ _ _ y) ∙ g))
-        (cases-bool (ends-field (drop (brace + n + 1) line))))
+      let g = sym (cond-false _ _ (closed line brace n) z) ∙ e in
+      let short : n < length t = strictly n (length t) (leading-le-length (in-class (Except 125)) t) (λ y. eqb-false _ _ z (omega (arith, size))) in
+      ⊎-elim
+      (λ (y : ends-field (drop (brace + n + 1) line) ≡ true).
+      let h = sym (cond-true _ _ _ y) ∙ g in
+      let a = from-and-then posting-from-cost (inside brace (record { text = take n t; place = brace + 1 })) (λ (x : Braces-said). and-then fault.Form (ends-at line (brace + n + 1)) (λ _. Ok (Some x))) b h in
+      let c = from-and-then fault.Form (ends-at line (brace + n + 1)) (λ _. Ok (Some (a .0))) b (a .2) in
+      let behind : drop (n + 1) t ≡ drop (brace + n + 1) line = drop-drop (n + 1) brace line ∙ ap (λ (m : ℕ). drop m line) (omega arith) in (
+        a .0,
+        take n t,
+        drop (n + 1) t,
+        sym (same-ok (c .2)),
+        cut-at 125 t short,
+        subst Spaces (sym behind) (ends-found line (brace + n + 1) (c .0) (c .1)),
+        inside-sound brace (record { text = take n t; place = brace + 1 }) (a .0) (a .1),
+      ))
+      (λ (y : ends-field (drop (brace + n + 1) line) ≡ false). err-ok (sym (cond-false _ _ _ y) ∙ g))
+      (cases-bool (ends-field (drop (brace + n + 1) line))))
       (cases-bool (eqb (brace + n) (length line)))
     where
       strictly : (m k : ℕ) → m ≤ k → (m ≡ k → ⊥) → m < k
@@ -103,15 +104,15 @@ module _ (line : List ℕ) where
       let sum = ap length e ∙ length-append ins (125 ∷ tail) in
       let open-end : eqb (brace + before 125 t) (length line) ≡ false = ne-eqb _ _ (λ z. omega (arith, n, size, sum)) in
       let rest : drop (brace + before 125 t + 1) line ≡ tail =
-        ap (λ (m : ℕ). drop m line) (omega (arith, n))
-        ∙ sym (drop-drop (length ins + 1) brace line)
-        ∙ ap (drop (length ins + 1)) e
-        ∙ sym (drop-drop 1 (length ins) (ins ++ 125 ∷ tail))
-        ∙ ap (drop 1) (drop-at ins (125 ∷ tail) (length ins) refl) in
+      ap (λ (m : ℕ). drop m line) (omega (arith, n))
+      ∙ sym (drop-drop (length ins + 1) brace line)
+      ∙ ap (drop (length ins + 1)) e
+      ∙ sym (drop-drop 1 (length ins) (ins ++ 125 ∷ tail))
+      ∙ ap (drop 1) (drop-at ins (125 ∷ tail) (length ins) refl) in
       let ends : ends-field (drop (brace + before 125 t + 1) line) ≡ true = ap ends-field rest ∙ ends-complete tail (spaces-end tail sp) in
       let text : take (before 125 t) t ≡ ins = ap (λ (m : ℕ). take m t) n ∙ ap (take (length ins)) e ∙ take-at ins (125 ∷ tail) (length ins) refl in
       let read : inside brace (record { text = take (before 125 t) t; place = brace + 1 }) ≡ Ok x =
-        ap (λ (w : List ℕ). inside brace (record { text = w; place = brace + 1 })) text ∙ inside-complete brace (record { text = ins; place = brace + 1 }) x f in
+      ap (λ (w : List ℕ). inside brace (record { text = w; place = brace + 1 })) text ∙ inside-complete brace (record { text = ins; place = brace + 1 }) x f in
       let last-one = ends-only line (brace + before 125 t + 1) (subst Spaces (sym rest) sp) in
       rw (open-end, ends, read, last-one)
 
@@ -137,31 +138,32 @@ module _ (line : List ℕ) where
       ⊎-elim
       (λ (m : missing s ≡ true). subst (Lot-form from) (same-ok (sym (cond-true _ _ _ m) ∙ e)) (none-found line from m))
       (λ (m : missing s ≡ false).
-        let g = sym (cond-false _ (Ok None) (cond (eqb (getD (s .text) 0 0) 123) (braces-from line (s .place)) (Err (fault.Form (s .place)))) m) ∙ e in
-        ⊎-elim
-        (λ (y : eqb (getD (s .text) 0 0) 123 ≡ true).
-          let some : 1 ≤ before 32 (body line from) = positive _ (λ z. eqb-false _ _ m (text-size from ∙ z)) in
-          let byte : getD (take (before 32 (body line from)) (body line from)) 0 0 ≡ 123 = ap (λ (t : List ℕ). getD t 0 0) (sym (text-is line from)) ∙ eqb-true _ _ y in
-          let whole = opens-with 123 (body line from) (before 32 (body line from)) some (λ z. omega arith) byte in
-          let size = ap length (at-start line from) ∙ ap length whole in
-          let fits : s .place ≤ length line = omega (arith, size, length-drop (field-start line from) line) in
-          let a = opened-sound (s .place) o fits (sym (cond-true _ (braces-from line (s .place)) _ y) ∙ g) in
-          let gap = take (gap-length line from) (here line from) in
-          let gap-size : length gap ≡ gap-length line from = omega (arith, length-take (gap-length line from) (here line from), leading-le-length (in-class Space) (here line from)) in
-          let place : s .place + 1 ≡ from + 1 + length gap + 1 = omega (arith, start-is line from, gap-size) in
-          subst (Lot-form from) (sym (a .3))
-          (record
-            { gap = gap
-            ; inside = a .1
-            ; tail = a .2
-            ; spelled =
-              sym (take-append-drop (gap-length line from) (here line from))
-              ∙ ap (λ (t : List ℕ). gap ++ t) (whole ∙ ap (λ (t : List ℕ). 123 ∷ t) (sym (behind-brace from) ∙ a .4))
-            ; spaces = pass-spaces _ (run-passes (in-class Space) (here line from))
-            ; spaces-behind = a .5
-            ; form = subst (λ (p : ℕ). Braces-form p (a .1) (a .0)) place (a .6) }))
-        (λ (y : eqb (getD (s .text) 0 0) 123 ≡ false). err-ok (sym (cond-false _ (braces-from line (s .place)) _ y) ∙ g))
-        (cases-bool (eqb (getD (s .text) 0 0) 123)))
+      let g = sym (cond-false _ (Ok None) (cond (eqb (getD (s .text) 0 0) 123) (braces-from line (s .place)) (Err (fault.Form (s .place)))) m) ∙ e in
+      ⊎-elim
+      (λ (y : eqb (getD (s .text) 0 0) 123 ≡ true).
+      let some : 1 ≤ before 32 (body line from) = positive _ (λ z. eqb-false _ _ m (text-size from ∙ z)) in
+      let byte : getD (take (before 32 (body line from)) (body line from)) 0 0 ≡ 123 = ap (λ (t : List ℕ). getD t 0 0) (sym (text-is line from)) ∙ eqb-true _ _ y in
+      let whole = opens-with 123 (body line from) (before 32 (body line from)) some (λ z. omega arith) byte in
+      let size = ap length (at-start line from) ∙ ap length whole in
+      let fits : s .place ≤ length line = omega (arith, size, length-drop (field-start line from) line) in
+      let a = opened-sound (s .place) o fits (sym (cond-true _ (braces-from line (s .place)) _ y) ∙ g) in
+      let gap = take (gap-length line from) (here line from) in
+      let gap-size : length gap ≡ gap-length line from = omega (arith, length-take (gap-length line from) (here line from), leading-le-length (in-class Space) (here line from)) in
+      let place : s .place + 1 ≡ from + 1 + length gap + 1 = omega (arith, start-is line from, gap-size) in
+      subst (Lot-form from) (sym (a .3))
+      (record {
+        gap = gap;
+        inside = a .1;
+        tail = a .2;
+        spelled =
+            sym (take-append-drop (gap-length line from) (here line from))
+            ∙ ap (λ (t : List ℕ). gap ++ t) (whole ∙ ap (λ (t : List ℕ). 123 ∷ t) (sym (behind-brace from) ∙ a .4));
+        spaces = pass-spaces _ (run-passes (in-class Space) (here line from));
+        spaces-behind = a .5;
+        form = subst (λ (p : ℕ). Braces-form p (a .1) (a .0)) place (a .6);
+      }))
+      (λ (y : eqb (getD (s .text) 0 0) 123 ≡ false). err-ok (sym (cond-false _ (braces-from line (s .place)) _ y) ∙ g))
+      (cases-bool (eqb (getD (s .text) 0 0) 123)))
       (cases-bool (missing s))
     where
       positive : (n : ℕ) → (n ≡ 0 → ⊥) → 1 ≤ n
@@ -175,7 +177,7 @@ module _ (line : List ℕ) where
       let r = h .inside ++ 125 ∷ h .tail in
       let k : gap-length line from ≡ length (h .gap) = ap (leading (in-class Space)) (h .spelled) ∙ run-made (in-class Space) (h .gap) (123 ∷ r) (spaces-pass _ (h .spaces)) refl in
       let whole : body line from ≡ 123 ∷ r =
-        ap (λ (m : ℕ). drop m (here line from)) k ∙ ap (drop (length (h .gap))) (h .spelled) ∙ drop-at (h .gap) (123 ∷ r) (length (h .gap)) refl in
+      ap (λ (m : ℕ). drop m (here line from)) k ∙ ap (drop (length (h .gap))) (h .spelled) ∙ drop-at (h .gap) (123 ∷ r) (length (h .gap)) refl in
       let text : s .text ≡ 123 ∷ take (before 32 r) r = text-is line from ∙ ap (λ (t : List ℕ). take (before 32 t) t) whole ∙ rw one-add in
       let m : missing s ≡ false = ne-eqb _ _ (λ z. omega (arith, ap length text)) in
       let y : eqb (getD (s .text) 0 0) 123 ≡ true = eq-eqb _ _ (ap (λ (t : List ℕ). getD t 0 0) text) in
@@ -189,21 +191,25 @@ module _ (line : List ℕ) where
   -- units
 
   units-made : (from : ℕ) (v : ℤ) (o : Option Braces-said) → Denotes (field-at line from .text) v → Commodity-name (field-at line (field-end line from) .text) → Lot-form (field-end line (field-end line from)) o → Units-form (from + 1) (drop from line) (record { number = field-at line from; hundredths = v; commodity = field-at line (field-end line from); braces = o }) o
-  units-made from v None d c h =
-      ( more line (λ (t : List ℕ). Denotes t v) (no-number v) from (field-at line (field-end line from) ∷ []) d
-        (more line Commodity-name no-commodity (field-end line from) [] c (fields-end _ (drop (field-end line (field-end line from)) line) h))
-      , d
-      , c)
-  units-made from v (Some b) d c h =
-      ( drop (field-end line (field-end line from)) line
-      , field-end line (field-end line from) + 1
-      , ( drop (field-end line from) line
-        , field-end line from + 1
-        , found line (λ (t : List ℕ). Denotes t v) (no-number v) from d
-        , (drop (field-end line (field-end line from)) line, field-end line (field-end line from) + 1, found line Commodity-name no-commodity (field-end line from) c, (refl, refl)))
-      , d
-      , c
-      , h)
+  units-made from v None d c h = (
+    more line (λ (t : List ℕ). Denotes t v) (no-number v) from (field-at line (field-end line from) ∷ []) d
+        (more line Commodity-name no-commodity (field-end line from) [] c (fields-end _ (drop (field-end line (field-end line from)) line) h)),
+    d,
+    c,
+  )
+  units-made from v (Some b) d c h = (
+    drop (field-end line (field-end line from)) line,
+    field-end line (field-end line from) + 1,
+    (
+      drop (field-end line from) line,
+      field-end line from + 1,
+      found line (λ (t : List ℕ). Denotes t v) (no-number v) from d,
+      (drop (field-end line (field-end line from)) line, field-end line (field-end line from) + 1, found line Commodity-name no-commodity (field-end line from) c, (refl, refl)),
+    ),
+    d,
+    c,
+    h,
+  )
 
   pub units-sound : (from : ℕ) (u : Units-said) → units-at line from ≡ Ok u → Units-form (from + 1) (drop from line) u (u .braces)
   unfolding units-at
@@ -227,12 +233,13 @@ module _ (line : List ℕ) where
   units-there from u (Some x) h =
       let a = front-only line from (u .number) (u .commodity ∷ []) (h .0) (h .1) (h .2) in
       let b = front-only line (field-end line from) (u .commodity) [] (h .0) (h .1) (a .1) in
-      let end = field-end line (field-end line from) in
-      ( a .0
-      , h .3
-      , b .0
-      , h .4
-      , subst (λ (r : ℕ). Braced r (drop end line) x) (sym (b .1 .1)) (subst (λ (t : List ℕ). Braced (h .1) t x) (sym (b .1 .0)) (h .5)))
+      let end = field-end line (field-end line from) in (
+        a .0,
+        h .3,
+        b .0,
+        h .4,
+        subst (λ (r : ℕ). Braced r (drop end line) x) (sym (b .1 .1)) (subst (λ (t : List ℕ). Braced (h .1) t x) (sym (b .1 .0)) (h .5)),
+      )
 
   pub units-complete : (from : ℕ) (u : Units-said) → Units-form (from + 1) (drop from line) u (u .braces) → units-at line from ≡ Ok u
   unfolding units-at
@@ -255,14 +262,14 @@ module _ (line : List ℕ) where
       let first = found line Account-name no-account 0 (n .1) in
       ⊎-elim
       (λ (m : missing (field-at line end) ≡ true).
-        let same : _≡_ {A = Posting-said} (record { account = field-at line 0; units = None }) p = ap (λ (x : Spot). record { account = x; units = None }) (n .0) ∙ same-ok (sym (cond-true _ _ _ m) ∙ a .2) in
-        subst (λ (x : Posting-said). Posting-form line (x .account) (x .units)) same
-        (more line Account-name no-account 0 [] (n .1) (fields-end _ (drop end line) (none-found line end m)), n .1))
+      let same : _≡_ {A = Posting-said} (record { account = field-at line 0; units = None }) p = ap (λ (x : Spot). record { account = x; units = None }) (n .0) ∙ same-ok (sym (cond-true _ _ _ m) ∙ a .2) in
+      subst (λ (x : Posting-said). Posting-form line (x .account) (x .units)) same
+      (more line Account-name no-account 0 [] (n .1) (fields-end _ (drop end line) (none-found line end m)), n .1))
       (λ (m : missing (field-at line end) ≡ false).
-        let b = from-and-then (λ (f : PostingFault). f) (units-at line end) (λ (u : Units-said). Ok (record { account = a .0; units = Some u })) p (sym (cond-false _ (Ok (record { account = a .0; units = None })) _ m) ∙ a .2) in
-        let same : _≡_ {A = Posting-said} (record { account = field-at line 0; units = Some (b .0) }) p = ap (λ (x : Spot). record { account = x; units = Some (b .0) }) (n .0) ∙ same-ok (b .2) in
-        subst (λ (x : Posting-said). Posting-form line (x .account) (x .units)) same
-        (drop end line, end + 1, first, n .1, units-sound end (b .0) (b .1)))
+      let b = from-and-then (λ (f : PostingFault). f) (units-at line end) (λ (u : Units-said). Ok (record { account = a .0; units = Some u })) p (sym (cond-false _ (Ok (record { account = a .0; units = None })) _ m) ∙ a .2) in
+      let same : _≡_ {A = Posting-said} (record { account = field-at line 0; units = Some (b .0) }) p = ap (λ (x : Spot). record { account = x; units = Some (b .0) }) (n .0) ∙ same-ok (b .2) in
+      subst (λ (x : Posting-said). Posting-form line (x .account) (x .units)) same
+      (drop end line, end + 1, first, n .1, units-sound end (b .0) (b .1)))
       (cases-bool (missing (field-at line end)))
 
   pub posting-complete : (account : Spot) (units : Option Units-said) → Posting-form line account units → posting-of line ≡ Ok (record { account = account; units = units })

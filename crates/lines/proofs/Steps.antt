@@ -119,9 +119,10 @@ module _ (line : List ℕ) where
 
   pub front-only : (from : ℕ) (f : Spot) (fs : List Spot) (rest : List ℕ) (q : ℕ) → Front (from + 1) (drop from line) (f ∷ fs) rest q → (field-at line from ≡ f) × Front (field-end line from + 1) (drop (field-end line from) line) fs rest q
   front-only from f fs rest q h =
-      let o = next-only line from f (h .0) (h .1) (h .2) in
-      ( o .0
-      , subst (λ (r : ℕ). Front r (drop (field-end line from) line) fs rest q) (sym (o .2)) (subst (λ (t : List ℕ). Front (h .1) t fs rest q) (sym (o .1)) (h .3)))
+      let o = next-only line from f (h .0) (h .1) (h .2) in (
+        o .0,
+        subst (λ (r : ℕ). Front r (drop (field-end line from) line) fs rest q) (sym (o .2)) (subst (λ (t : List ℕ). Front (h .1) t fs rest q) (sym (o .1)) (h .3)),
+      )
 
   pub fields-only : (from : ℕ) (f : Spot) (fs : List Spot) → Fields (from + 1) (drop from line) (f ∷ fs) → (field-at line from ≡ f) × Fields (field-end line from + 1) (drop (field-end line from) line) fs
   fields-only from f fs h = let o = front-only from f fs (h .0) (h .1) (h .2) in (o .0, (h .0, h .1, o .1, h .3))

@@ -79,20 +79,21 @@ module _ (line : List ℕ) where
       let count : length (t .text) ≡ f .0 = same-some (sym (quoted-complete (s .text) (t .text) (drop (f .0 + 2) (s .text)) quotes) ∙ f .1) in
       let stop : s .place + length (t .text) + 1 ≡ field-start line from + (f .0 + 2) = omega (arith, count) in
       let rest : drop (f .0 + 2) (s .text) ≡ drop (s .place + length (t .text) + 1) line =
-        drop-drop (f .0 + 2) (field-start line from) line ∙ ap (λ (n : ℕ). drop n line) (sym stop) in
+      drop-drop (f .0 + 2) (field-start line from) line ∙ ap (λ (n : ℕ). drop n line) (sym stop) in
       let place : t .place ≡ from + 1 + length (take (gap-length line from) (here line from)) =
-        sym (ap (λ (x : Spot). x .place) (f .2)) ∙ omega (arith, start-is line from, gap-size from) in
+      sym (ap (λ (x : Spot). x .place) (f .2)) ∙ omega (arith, start-is line from, gap-size from) in
       subst (λ (x : Quoted-said). Quoted (from + 1) (drop from line) (x .text) (drop (x .end) line) (x .end + 1)) said
-      (record
-        { gap = take (gap-length line from) (here line from)
-        ; after = s .text
-        ; spelled =
-          sym (take-append-drop (gap-length line from) (here line from))
-          ∙ ap (λ (x : List ℕ). take (gap-length line from) (here line from) ++ x) (sym (at-start line from))
-        ; spaces = pass-spaces _ (run-passes (in-class Space) (here line from))
-        ; quotes = subst (Quotes (s .text) (t .text)) rest quotes
-        ; place = place
-        ; behind = omega (arith, ap (λ (x : Spot). x .place) (f .2)) })
+      (record {
+        gap = take (gap-length line from) (here line from);
+        after = s .text;
+        spelled =
+            sym (take-append-drop (gap-length line from) (here line from))
+            ∙ ap (λ (x : List ℕ). take (gap-length line from) (here line from) ++ x) (sym (at-start line from));
+        spaces = pass-spaces _ (run-passes (in-class Space) (here line from));
+        quotes = subst (Quotes (s .text) (t .text)) rest quotes;
+        place = place;
+        behind = omega (arith, ap (λ (x : Spot). x .place) (f .2));
+      })
 
   pub quoted-only : (from : ℕ) (f : Spot) (rest : List ℕ) (q : ℕ) → Quoted (from + 1) (drop from line) f rest q → (e : ℕ) × (q ≡ e + 1) × (drop e line ≡ rest) × (quoted-from line from ≡ Ok (record { text = f; end = e }))
   unfolding quoted-from
@@ -101,25 +102,25 @@ module _ (line : List ℕ) where
       let content = f .text in
       let opened : h .after ≡ 34 ∷ (content ++ 34 ∷ rest) = h .quotes .spelled in
       let k : gap-length line from ≡ length (h .gap) =
-        ap (leading (in-class Space)) (h .spelled ∙ ap (λ (x : List ℕ). h .gap ++ x) opened)
-        ∙ run-made (in-class Space) (h .gap) (34 ∷ (content ++ 34 ∷ rest)) (spaces-pass _ (h .spaces)) refl in
+      ap (leading (in-class Space)) (h .spelled ∙ ap (λ (x : List ℕ). h .gap ++ x) opened)
+      ∙ run-made (in-class Space) (h .gap) (34 ∷ (content ++ 34 ∷ rest)) (spaces-pass _ (h .spaces)) refl in
       let text : s .text ≡ h .after =
-        at-start line from
-        ∙ ap (λ (m : ℕ). drop m (here line from)) k
-        ∙ ap (drop (length (h .gap))) (h .spelled)
-        ∙ drop-at (h .gap) (h .after) (length (h .gap)) refl in
+      at-start line from
+      ∙ ap (λ (m : ℕ). drop m (here line from)) k
+      ∙ ap (drop (length (h .gap))) (h .spelled)
+      ∙ drop-at (h .gap) (h .after) (length (h .gap)) refl in
       let place : s .place ≡ f .place = omega (arith, start-is line from, k, h .place) in
       let count : quoted-length (s .text) ≡ Some (length content) = ap quoted-length text ∙ quoted-complete (h .after) content rest (h .quotes) in
       let inner : take (length content) (drop 1 (s .text)) ≡ content =
-        ap (λ (x : List ℕ). take (length content) (drop 1 x)) (text ∙ opened) ∙ take-at content (34 ∷ rest) (length content) refl in
+      ap (λ (x : List ℕ). take (length content) (drop 1 x)) (text ∙ opened) ∙ take-at content (34 ∷ rest) (length content) refl in
       let found : quoted-at s ≡ Ok f = to-quoted s (length content) count ∙ ap Ok (same-spot (shown s (length content)) f inner place) in
       let e = s .place + length content + 1 in
       let stop : e ≡ field-start line from + (length content + 2) = omega arith in
       let tail : drop e line ≡ rest =
-        ap (λ (n : ℕ). drop n line) stop
-        ∙ sym (drop-drop (length content + 2) (field-start line from) line)
-        ∙ ap (drop (length content + 2)) (text ∙ opened)
-        ∙ behind content rest in
+      ap (λ (n : ℕ). drop n line) stop
+      ∙ sym (drop-drop (length content + 2) (field-start line from) line)
+      ∙ ap (drop (length content + 2)) (text ∙ opened)
+      ∙ behind content rest in
       (e, omega (arith, place, h .behind), tail, rw found)
 
   pub transaction-sound : (d : ℕ) (flag : Flag) (from : ℕ) (s : Said) → transaction-from line d flag from ≡ Ok s → (text : Spot) × (tail : List ℕ) × (r : ℕ) × (s ≡ transaction d flag text) × Quoted (from + 1) (drop from line) text tail r × Spaces tail
@@ -144,14 +145,14 @@ module _ (line : List ℕ) where
       ⊎-elim
       (λ (y : sameBytes name (codes "STRICT") ≡ true). sameBytes-decides _ _ .0 y ∙ ap method-name (same-some (rw y at e)))
       (λ (n : sameBytes name (codes "STRICT") ≡ false).
-        ⊎-elim
-        (λ (y : sameBytes name (codes "FIFO") ≡ true). sameBytes-decides _ _ .0 y ∙ ap method-name (same-some (rw (n, y) at e)))
-        (λ (n₂ : sameBytes name (codes "FIFO") ≡ false).
-          ⊎-elim
-          (λ (y : sameBytes name (codes "LIFO") ≡ true). sameBytes-decides _ _ .0 y ∙ ap method-name (same-some (rw (n, n₂, y) at e)))
-          (λ (n₃ : sameBytes name (codes "LIFO") ≡ false). none-some (rw (n, n₂, n₃) at e))
-          (cases-bool (sameBytes name (codes "LIFO"))))
-        (cases-bool (sameBytes name (codes "FIFO"))))
+      ⊎-elim
+      (λ (y : sameBytes name (codes "FIFO") ≡ true). sameBytes-decides _ _ .0 y ∙ ap method-name (same-some (rw (n, y) at e)))
+      (λ (n₂ : sameBytes name (codes "FIFO") ≡ false).
+      ⊎-elim
+      (λ (y : sameBytes name (codes "LIFO") ≡ true). sameBytes-decides _ _ .0 y ∙ ap method-name (same-some (rw (n, n₂, y) at e)))
+      (λ (n₃ : sameBytes name (codes "LIFO") ≡ false). none-some (rw (n, n₂, n₃) at e))
+      (cases-bool (sameBytes name (codes "LIFO"))))
+      (cases-bool (sameBytes name (codes "FIFO"))))
       (cases-bool (sameBytes name (codes "STRICT")))
 
   method-complete : (m : Method) → method-named (method-name m) ≡ Some m
@@ -170,15 +171,16 @@ module _ (line : List ℕ) where
       let a = from-and-then (λ (f : DirectiveFault). f) (quoted-from line from) (λ (v : Quoted-said). and-then (λ (f : DirectiveFault). f) (method-or (v .text .place) (method-named (v .text .text))) (λ (m : Method). and-then fault.Form (ends-at line (v .end)) (λ _. Ok (booking-method m)))) s e in
       let q = a .0 in
       let b = from-and-then (λ (f : DirectiveFault). f) (method-or (q .text .place) (method-named (q .text .text))) (λ (m : Method). and-then fault.Form (ends-at line (q .end)) (λ _. Ok (booking-method m))) s (a .2) in
-      let c = from-and-then fault.Form (ends-at line (q .end)) (λ _. Ok (booking-method (b .0))) s (b .2) in
-      ( q .text
-      , b .0
-      , drop (q .end) line
-      , q .end + 1
-      , sym (same-ok (c .2))
-      , quoted-found from q (a .1)
-      , method-sound (q .text .text) (b .0) (from-method (q .text .place) _ (b .0) (b .1))
-      , ends-found line (q .end) (c .0) (c .1))
+      let c = from-and-then fault.Form (ends-at line (q .end)) (λ _. Ok (booking-method (b .0))) s (b .2) in (
+        q .text,
+        b .0,
+        drop (q .end) line,
+        q .end + 1,
+        sym (same-ok (c .2)),
+        quoted-found from q (a .1),
+        method-sound (q .text .text) (b .0) (from-method (q .text .place) _ (b .0) (b .1)),
+        ends-found line (q .end) (c .0) (c .1),
+      )
 
   value-complete : (from : ℕ) (value : Spot) (m : Method) (tail : List ℕ) (r : ℕ) → Quoted (from + 1) (drop from line) value tail r → value .text ≡ method-name m → Spaces tail → method-from line from ≡ Ok (booking-method m)
   unfolding method-from
@@ -196,20 +198,21 @@ module _ (line : List ℕ) where
       let q = a .0 in
       ⊎-elim
       (λ (y : is-method-option (q .text .text) ≡ true).
-        let v = value-sound (q .end) s (rw y at (a .2)) in
-        ( q .text
-        , drop (q .end) line
-        , q .end + 1
-        , v .0
-        , v .1
-        , v .2
-        , v .3
-        , v .4
-        , quoted-found from q (a .1)
-        , sameBytes-decides _ _ .0 y
-        , v .5
-        , v .6
-        , v .7))
+      let v = value-sound (q .end) s (rw y at (a .2)) in (
+        q .text,
+        drop (q .end) line,
+        q .end + 1,
+        v .0,
+        v .1,
+        v .2,
+        v .3,
+        v .4,
+        quoted-found from q (a .1),
+        sameBytes-decides _ _ .0 y,
+        v .5,
+        v .6,
+        v .7,
+      ))
       (λ (n : is-method-option (q .text .text) ≡ false). err-ok (rw n at (a .2)))
       (cases-bool (is-method-option (q .text .text)))
 

@@ -6,7 +6,10 @@ use lib.Chars.{codes}
 use lib.ListN.{length}
 use Rattle.std.specs.declared.option.Option.{Option}
 use Rattle.std.specs.declared.option.Option.the-variants.{Some, None}
+use Rattle.std.specs.declared.result.Result.{Result}
+use Rattle.std.specs.declared.result.Result.the-variants.{Ok, Err}
 use Rattle.std.specs.shelf.Lists.{All}
+use Rattle.refusal.specs.declared.Fault.{Fault}
 use Rattle.values.specs.Spelling.{Starts, Commodity-name, Account-name}
 use Rattle.fields.specs.Denotes.{Denotes, Writes-date, Field-ends, Quotes}
 use Rattle.fields.specs.Spots.{Spot}
@@ -143,3 +146,10 @@ Blank-line line = (length line ≤ 120) × Spaces line
 -- the line of a number is written in a form that says s
 abbrev pub Written : ℕ → List ℕ → Said → Type 0
 Written number line s = Clean line × Form number line s
+
+-- What is read of the line of a number is just what is written there: nothing of a blank line, of another what its form
+-- says and no form says anything else, and a line is refused only if it is neither blank nor written in any form.
+abbrev pub Reads-exactly : ℕ → List ℕ → Result (Option Said) Fault → Type 0
+Reads-exactly number line (Ok None) = Blank-line line
+Reads-exactly number line (Ok (Some s)) = Written number line s × ((other : Said) → Written number line other → other ≡ s)
+Reads-exactly number line (Err f) = (Blank-line line → ⊥) × ((s : Said) → Written number line s → ⊥)

@@ -4,6 +4,7 @@ ghost use Prim.Native.Nat.{_≤_};
 ghost use lib.ListN.{length};
 ghost use Rattle.std.specs.Options.{mapped, Cases};
 ghost use Rattle.fields.specs.Results.{map-ok};
+ghost use Rattle.lines.specs.Grammar.{Reads-exactly};
 ghost use Rattle.lines.specs.Said.{said};
 ghost use Rattle.lines.specs.Lines.{line-kind, wrong-byte, posting-line, other-line, by-kind, line-says};
 use crate::directive::Directive;
@@ -81,12 +82,19 @@ fn read_by_kind<'a>(line: &'a [u8], number: u32) -> Result<Option<Directive<'a>>
     }
 }
 
-// What a line says, nothing if it is blank, or its fault. Lines are numbered from 1.
-pub fn read_line<'a>(line: &'a [u8], number: u32) -> Result<Option<Directive<'a>>, Fault>
+fn line_said<'a>(line: &'a [u8], number: u32) -> Result<Option<Directive<'a>>, Fault>
     ensures { λ r. ⌜ map-ok (mapped said) r ≡ line-says number (now (line .entry)) ⌝ }
 {
     match read_by_kind(line, number) {
         Ok(directive) => Ok(directive),
         Err(fault) => Err(fault.on(number)),
     }
+}
+
+// What a line says, nothing if it is blank, or its fault. Lines are numbered from 1.
+pub fn read_line<'a>(line: &'a [u8], number: u32) -> Result<Option<Directive<'a>>, Fault>
+    ensures value { λ r. ⌜ map-ok (mapped said) r ≡ line-says number (now (line .entry)) ⌝ }
+    ensures exactly { λ r. ⌜ Reads-exactly number (now (line .entry)) (map-ok (mapped said) r) ⌝ }
+{
+    line_said(line, number)
 }

@@ -1,11 +1,7 @@
-use borrow.Author.Needs.{needs}
-use Rattle.lines.specs.Lines.{line-says}
+use Rattle.lines.proofs.LineForms.{reads-exactly}
 use Rattle.lines.proofs.line.read_line.Needs as need
 
-pub returns-in-Ok : need.returns-in-Ok
-unfolding line-says
-returns-in-Ok c = search needs
-
-pub returns-in-Err : need.returns-in-Err
-unfolding line-says
-returns-in-Err c = search needs
+pub returns : need.returns
+returns c =
+    let e = c .line-said .ensures in
+    record { value = e; exactly = reads-exactly _ _ _ e }
