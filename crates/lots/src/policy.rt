@@ -26,7 +26,7 @@ pub trait Policy: Named {
 
     law keeps: { (p : Self) → Keeps (order p) };
 
-    fn name(&self) -> &'static str
+    fn name(&self) -> &str
         ensures { λ r. ⌜ now r ≡ order (now (self .entry)) .name ⌝ };
 
     fn code(&self) -> u16
@@ -50,7 +50,7 @@ pub impl Named for Strict as StrictNamed {
 pub impl Policy for Strict as StrictPolicy {
     ghost order = { λ _. strict };
 
-    fn name(&self) -> &'static str {
+    fn name(&self) -> &str {
         Self::NAME
     }
 
@@ -77,7 +77,7 @@ pub impl Named for Fifo as FifoNamed {
 pub impl Policy for Fifo as FifoPolicy {
     ghost order = { λ _. fifo };
 
-    fn name(&self) -> &'static str {
+    fn name(&self) -> &str {
         Self::NAME
     }
 
@@ -104,7 +104,7 @@ pub impl Named for Lifo as LifoNamed {
 pub impl Policy for Lifo as LifoPolicy {
     ghost order = { λ _. lifo };
 
-    fn name(&self) -> &'static str {
+    fn name(&self) -> &str {
         Self::NAME
     }
 
@@ -134,7 +134,7 @@ pub impl<P: Policy> Named for WholeLot<P> as WholeLotNamed {
 pub impl<P: Policy> Policy for WholeLot<P> as WholeLotPolicy {
     ghost order = { λ w. whole-lot (P·Policy .order (w .below)) };
 
-    fn name(&self) -> &'static str {
+    fn name(&self) -> &str {
         self.below.name()
     }
 
