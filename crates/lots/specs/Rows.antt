@@ -24,6 +24,10 @@ abbrev pub rows-of : Option Lot → Option LotRow
 rows-of None = None
 rows-of (Some l) = Some (row-of l)
 
+-- a row of zeros, which is no lot's: what is read past the end of a list
+abbrev pub no-lot : LotRow
+no-lot = record { key = record { account = 0; commodity = 0; cost = record { number = 0; commodity = 0 }; date = 0 }; units = 0; serial = 0 }
+
 -- the most units of a lot, and the highest unit cost, in hundredths
 abbrev pub most : ℕ
 most = 99999999
