@@ -1,1 +1,4 @@
 pub mod Finds
+pub mod Sums
+pub mod Drawing
+pub mod Uniques
