@@ -3,7 +3,7 @@ use mathlib.Core.Path.{_≡_}
 use Prim.Native.Nat.{ℕ, _≤_}
 use native.Mathlib.Omega.{arith}
 use lib.ListN.{length, length-take}
-use Rattle.bounded.specs.declared.bounded.Bounded.{Bounded}
+use Rattle.bounded.specs.declared.list.Bounded.{Bounded}
 use Rattle.bounded.specs.Items.{items}
 
 pub items-length : {T : Type 0} {n : ℕ} (b : Bounded T n) → length (items b) ≡ b .len

@@ -6,8 +6,8 @@ use lib.Dec.{leb}
 use lib.ListN.{length, take}
 use Rattle.std.specs.declared.result.Result.{Result}
 use Rattle.std.specs.declared.result.Result.the-variants.{Ok, Err}
-use Rattle.bounded.specs.declared.bounded.Bounded.{Bounded}
-use Rattle.bounded.specs.declared.bounded.calls.Full.{Full}
+use Rattle.bounded.specs.declared.list.Bounded.{Bounded}
+use Rattle.bounded.specs.declared.list.calls.Full.{Full}
 
 abbrev pub items : {T : Type 0} {n : ℕ} → Bounded T n → List T
 items b = take (b .len) (b .slots)

@@ -80,7 +80,7 @@ sum-of-same-all : (f g : LotRow → ℕ) (xs : List LotRow) → All (λ r. f r �
 sum-of-same-all f g [] all = refl
 sum-of-same-all f g (x ∷ xs) all = let h = all .0 in let ih = sum-of-same-all f g xs (all .1) in omega arith
 
-sum-of-zero-all : (f : LotRow → ℕ) (xs : List LotRow) → All (λ r. f r ≡ 0) xs → sum-of f xs ≡ 0
+pub sum-of-zero-all : (f : LotRow → ℕ) (xs : List LotRow) → All (λ r. f r ≡ 0) xs → sum-of f xs ≡ 0
 sum-of-zero-all f [] all = refl
 sum-of-zero-all f (x ∷ xs) all = let h = all .0 in let ih = sum-of-zero-all f xs (all .1) in omega arith
 
@@ -106,7 +106,7 @@ all-insert-draw : (P : Draw → Type 0) (lt : LotRow → LotRow → Bool) (d : D
 all-insert-draw P lt d [] p all = (p, tt)
 all-insert-draw P lt d (e ∷ es) p all = cond-both (lt (d .lot) (e .lot)) (d ∷ e ∷ es) (e ∷ insert-draw lt d es) (λ ys. All P ys) (λ _. (p, all)) (λ _. (all .0, all-insert-draw P lt d es p (all .1)))
 
-all-draws : (P : Draw → Type 0) (lt : LotRow → LotRow → Bool) (g : LotRow → ℕ) (xs : List LotRow) → All (λ r. (g r ≡ 0 → ⊥) → P (record { lot = r; units = g r })) xs → All P (draws-in-order lt g xs)
+pub all-draws : (P : Draw → Type 0) (lt : LotRow → LotRow → Bool) (g : LotRow → ℕ) (xs : List LotRow) → All (λ r. (g r ≡ 0 → ⊥) → P (record { lot = r; units = g r })) xs → All P (draws-in-order lt g xs)
 all-draws P lt g [] all = tt
 all-draws P lt g (r ∷ rs) all =
     let ih = all-draws P lt g rs (all .1) in

@@ -18,10 +18,14 @@ abbrev pub Member : {X : Type 0} → List X → X → Type 0
 Member [] x = ⊥
 Member (y ∷ ys) x = (y ≡ x) ⊎ Member ys x
 
+-- each is related to all that come later
+abbrev pub All-pairs : {X : Type 0} → (X → X → Type 0) → List X → Type 0
+All-pairs R [] = Unit {0}
+All-pairs R (x ∷ xs) = All (R x) xs × All-pairs R xs
+
 -- lots stand in the order of their serials, no two of which are equal
 abbrev pub Serials-rise : List LotRow → Type 0
-Serials-rise [] = Unit {0}
-Serials-rise (r ∷ rs) = All (λ s. r .serial < s .serial) rs × Serials-rise rs
+Serials-rise lots = All-pairs (λ r s. r .serial < s .serial) lots
 
 -- a draw takes some units of a matching lot, and no more than it has
 pub record From-match (M : LotRow → Bool) (lots : List LotRow) (d : Draw) : Type 0 where
@@ -32,8 +36,7 @@ pub record From-match (M : LotRow → Bool) (lots : List LotRow) (d : Draw) : Ty
 
 -- each draw is from a lot that comes before those of the later draws
 abbrev pub In-order : (LotRow → LotRow → Bool) → List Draw → Type 0
-In-order lt [] = Unit {0}
-In-order lt (d ∷ ds) = All (λ e. lt (d .lot) (e .lot) ≡ true) ds × In-order lt ds
+In-order lt ds = All-pairs (λ d e. lt (d .lot) (e .lot) ≡ true) ds
 
 -- each matching lot that comes before a drawn one is emptied: a draw of all its units is among the draws
 abbrev pub Emptied-before : (LotRow → Bool) → (LotRow → LotRow → Bool) → List LotRow → List Draw → Type 0

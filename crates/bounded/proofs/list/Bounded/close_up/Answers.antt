@@ -4,7 +4,7 @@ use native.Mathlib.Omega.{arith}
 use lib.ListN.{length, take}
 use Rattle.bounded.proofs.Lists.{closing-none, closing-more, closing-all}
 use Rattle.bounded.proofs.Capacity.{items-length}
-use Rattle.bounded.proofs.bounded.Bounded.close_up.Needs as need
+use Rattle.bounded.proofs.list.Bounded.close_up.Needs as need
 
 pub loop-k-holds : need.loop-k-holds
 loop-k-holds g c =

@@ -2,7 +2,7 @@ use native.Mathlib.Omega.{arith}
 use Rattle.bounded.specs.Items.{items}
 use Rattle.bounded.proofs.Lists.{take-set, set-past}
 use Rattle.bounded.proofs.Capacity.{items-length}
-use Rattle.bounded.proofs.bounded.Bounded.put.Needs as need
+use Rattle.bounded.proofs.list.Bounded.put.Needs as need
 
 pub returns-then-place-self : need.returns-then-place-self
 returns-then-place-self g c = take-set (c .args .self .now .len) (c .args .self .now .slots) (c .args .place) (c .args .item)

@@ -6,7 +6,7 @@ ghost use lib.ListN.{length, set};
 ghost use Rattle.std.specs.shelf.Lists.{removed};
 ghost use Rattle.bounded.specs.Items.{items, pushed};
 
-use crate::bounded::Bounded;
+use crate::list::Bounded;
 
 // A push found no room.
 #[derive(Clone, Copy)]

@@ -10,7 +10,7 @@ use Rattle.std.proofs.shelf.Lists.{take-more-set}
 use Rattle.std.proofs.shelf.Tests.{lt-leb, cond-false}
 use Rattle.bounded.specs.Items.{items}
 use Rattle.bounded.proofs.Capacity.{items-length}
-use Rattle.bounded.proofs.bounded.Bounded.push.Needs as need
+use Rattle.bounded.proofs.list.Bounded.push.Needs as need
 
 pub returns : need.returns
 returns g c =
