@@ -4,3 +4,4 @@ pub mod Drawing
 pub mod Uniques
 pub mod Earliest
 pub mod Steps
+pub mod Splits

@@ -22,10 +22,6 @@ pub sum-of-split : (f : LotRow → ℕ) (ys : List LotRow) (x : LotRow) (zs : Li
 sum-of-split f [] x zs = refl
 sum-of-split f (y ∷ ys) x zs = let ih = sum-of-split f ys x zs in omega arith
 
-all-zip : {X : Type 0} (P Q R : X → Type 0) → ((x : X) → P x → Q x → R x) → (xs : List X) → All P xs → All Q xs → All R xs
-all-zip P Q R f [] p q = tt
-all-zip P Q R f (x ∷ xs) p q = (f x (p .0) (q .0), all-zip P Q R f xs (p .1) (q .1))
-
 -- draws
 draws-same : (lt : LotRow → LotRow → Bool) (f g : LotRow → ℕ) (xs : List LotRow) → All (λ r. f r ≡ g r) xs → draws-in-order lt f xs ≡ draws-in-order lt g xs
 draws-same lt f g [] all = refl

@@ -1,0 +1,41 @@
+use mathlib.Core.Path.{_≡_, ap, subst, _∙_}
+use mathlib.Core.List.{List}
+use Prim.Native.Nat.{ℕ}
+use Rattle.std.specs.declared.option.Option.{Option}
+use Rattle.std.specs.declared.option.Option.the-variants.{Some, None}
+use Rattle.bounded.specs.Items.{items}
+use Rattle.bounded.proofs.Capacity.{items-within}
+use Rattle.lots.specs.declared.rows.Key.{Key}
+use Rattle.lots.specs.declared.rows.LotRow.{LotRow}
+use Rattle.stock.specs.Places.{Open-at, grown-at}
+use Rattle.stock.specs.View.{table-of}
+use Rattle.stock.proofs.Keeping.{in-words}
+use Rattle.stock.proofs.Purchases.{grown-is-purchased, grown-is-late, opened-is-purchased, opened-is-late}
+use Rattle.stock.proofs.table.LotTable.purchase.Needs as need
+
+-- what the search for the place found, in the table's own words
+found : (k k′ : Key) (xs ys : List LotRow) (r s : Option ℕ) → k ≡ k′ → xs ≡ ys → r ≡ s → Open-at k xs r → Open-at k′ ys s
+found k k′ xs ys r s e f g at =
+    subst (λ (q : Option ℕ). Open-at k′ ys q) g (subst (λ (zs : List LotRow). Open-at k′ zs r) f (subst (λ (j : Key). Open-at j xs r) e at))
+
+pub returns-in-Some : need.returns-in-Some
+returns-in-Some c =
+    let t = c .args .self .now in
+    let b = c .args .bought .now in
+    let at = found (c .key .result) (b .key) (c .as-slice .result .now) (items (t .rows)) (c .place-of .result) (Some (c .in-Some .place)) (c .key .ensures) (c .as-slice .ensures .items) (c .in-Some .is) (c .place-of .ensures) in
+    let kept = in-words (items (t .rows)) (t .next) (items-within (t .rows)) (t .kept) in
+    let grew = c .grow .ensures ∙ ap (λ (n : ℕ). grown-at (c .in-Some .place) n (table-of t)) (c .units .ensures) in
+    record {
+      booked = λ _. grew ∙ grown-is-purchased (b .key) (b .units) (table-of t) kept (c .in-Some .place) at;
+      out-of-serials = λ _. grew ∙ grown-is-late (b .key) (b .units) (table-of t) kept (c .in-Some .place) at;
+    }
+
+pub returns-in-None : need.returns-in-None
+returns-in-None c =
+    let t = c .args .self .now in
+    let b = c .args .bought .now in
+    let at = found (c .key .result) (b .key) (c .as-slice .result .now) (items (t .rows)) (c .place-of .result) None (c .key .ensures) (c .as-slice .ensures .items) (c .in-None .is) (c .place-of .ensures) in
+    record {
+      booked = λ low. c .start .ensures ∙ opened-is-purchased (b .key) (b .units) (table-of t) (b .bounded) at low;
+      out-of-serials = λ high. c .start .ensures ∙ opened-is-late (b .key) (b .units) (table-of t) (b .bounded) at high;
+    }

@@ -1,0 +1,3 @@
+// The open lots: purchases, reductions, questions, and what lots weigh.
+pub mod table;
+pub mod weight;
