@@ -1,4 +1,5 @@
 pub mod Kept
 pub mod Tables
 pub mod Places
+pub mod Reductions
 pub mod View

@@ -1,4 +1,4 @@
--- The open lot of a key by its place, and what a purchase does there.
+-- Lots by their places: the open lot of a key, and what a purchase or a draw does at a place.
 use mathlib.Core.Path.{_≡_}
 use mathlib.Core.List.{List, [], _∷_, _++_}
 use mathlib.Core.Bool.{Bool, true, cond, _||_}
@@ -13,7 +13,9 @@ use Rattle.refusal.specs.declared.Refusal.{Refusal}
 use Rattle.refusal.specs.declared.Refusal.the-variants.{LotTooLarge, TooManyLots}
 use Rattle.lots.specs.declared.rows.Key.{Key}
 use Rattle.lots.specs.declared.rows.LotRow.{LotRow}
-use Rattle.lots.specs.Rows.{most, no-lot, with-more}
+use Rattle.lots.specs.Rows.{most, no-lot, with-more, with-fewer}
+use Rattle.std.specs.shelf.Lists.{removed}
+use Rattle.matching.specs.declared.wanted.Draw.{Draw}
 use Rattle.matching.specs.Places.{None-match}
 use Rattle.stock.specs.Tables.{Table, last-serial, of-key}
 
@@ -33,3 +35,10 @@ abbrev pub opened : Key → ℕ → Table → Result ℕ Refusal × Table
 opened k n t =
     cond (leb last-serial (t .next) || leb 256 (length (t .lots))) (Err TooManyLots, t)
     (Ok (t .next), record { lots = t .lots ++ (record { key = k; units = n; serial = t .next } ∷ []); next = t .next + 1 })
+
+-- of n asked units the lot at place i gives what it has; emptied it is gone
+abbrev pub taken-at : ℕ → ℕ → Table → Draw × Table
+taken-at i n t =
+    cond (leb (getD (t .lots) i no-lot .units) n)
+      (record { lot = getD (t .lots) i no-lot; units = getD (t .lots) i no-lot .units }, record { lots = removed (t .lots) i; next = t .next })
+      (record { lot = getD (t .lots) i no-lot; units = n }, record { lots = set (t .lots) i (with-fewer (getD (t .lots) i no-lot) n); next = t .next })
