@@ -3,3 +3,4 @@ pub mod Tables
 pub mod Places
 pub mod Reductions
 pub mod View
+pub mod Weights
