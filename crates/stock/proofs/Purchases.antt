@@ -8,7 +8,7 @@ use lib.Dec.{leb, ltb}
 use lib.ListN.{length, getD, set, take, drop}
 use Rattle.std.specs.shelf.Lists.{All}
 use Rattle.std.proofs.shelf.Elements.{all-from-getD, all-weaker}
-use Rattle.std.proofs.shelf.Tests.{both-ways, cond-true, cond-false, or-from, or-left, or-right, le-ltb, lt-leb, le-leb, leb-true, cases-bool, ltb-true}
+use Rattle.std.proofs.shelf.Tests.{both-ways, cond-true, cond-false, or-from, or-left, or-right, le-ltb, lt-leb, le-leb, cases-bool, cases-lt, cond-both}
 use mathlib.Core.Logic.{⊎-elim}
 use Rattle.std.specs.declared.option.Option.{Option}
 use Rattle.std.specs.declared.option.Option.the-variants.{Some, None}
@@ -25,7 +25,8 @@ use Rattle.matching.proofs.Sums.{by-bool}
 use Rattle.matching.proofs.Drawing.{sum-of-zero-all}
 use Rattle.matching.proofs.Steps.{sum-of-split}
 use Rattle.matching.proofs.Splits.{split-at, set-at, pairs-others}
-use Rattle.stock.specs.Tables.{Table, last-serial, answered, of-key, is-open, units-of-key, add-units, serial-for, purchased, purchased-late}
+use Rattle.stock.specs.Tables.{Table, last-serial, answered, of-key, is-open, units-of-key, add-units, serial-for, purchased, purchased-late, purchase-refusal, table-after-purchase}
+use Rattle.stock.specs.Promises.{Brings-units, Kept-if-refused}
 use Rattle.stock.specs.Places.{Open-at, grown-at, opened}
 use Rattle.stock.specs.Kept.{Well-kept, Keys-differ}
 use Rattle.stock.proofs.Keeping.{key-same, key-itself}
@@ -130,3 +131,50 @@ module _ (k : Key) (n : ℕ) (t : Table) where
       let split = split-at (t .lots) i no-lot (at .0) in
       let there = ap (is-open k) split ∙ open-there k (getD (t .lots) i no-lot) (at .1) (drop (suc i) (t .lots)) (take i (t .lots)) in
       grown-is-purchased w i at ∙ sym (cond-true (is-open k (t .lots)) (purchased k n t) (Err TooManyLots, t) there)
+
+-- What a purchase promises.
+
+more-units : (k j : Key) (r : LotRow) (n : ℕ) → of-key k r ≡ true → units-if (of-key j) (with-more r n) ≡ units-if (of-key j) r + cond (same-key k j) n 0
+more-units k j r n own =
+    ap (λ (b : Bool). cond b (r .units + n) 0) (ap (λ (i : Key). same-key i j) (key-same (r .key) k own))
+    ∙ by-bool (same-key k j) (λ (b : Bool). cond b (r .units + n) 0 ≡ cond b (r .units) 0 + cond b n 0) (λ _. refl) (λ _. refl)
+    ∙ ap (λ (b : Bool). cond b (r .units) 0 + cond (same-key k j) n 0) (sym (ap (λ (i : Key). same-key i j) (key-same (r .key) k own)))
+
+add-brings : (k j : Key) (n next : ℕ) (lots : List LotRow) → units-of-key j (add-units k n next lots) ≡ units-of-key j lots + cond (same-key k j) n 0
+add-brings k j n next [] = omega arith
+add-brings k j n next (r ∷ rs) =
+    cond-both (of-key k r) (with-more r n ∷ rs) (r ∷ add-units k n next rs) (λ xs. units-of-key j xs ≡ units-of-key j (r ∷ rs) + cond (same-key k j) n 0)
+    (λ own. let m = more-units k j r n own in omega arith)
+    (λ _. let ih = add-brings k j n next rs in omega arith)
+
+module _ (k : Key) (n : ℕ) (t : Table) where
+  answered-brings : (refusal : Option Refusal) → Brings-units k n t (answered refusal (serial-for k (t .next) (t .lots)) (table-after-purchase k n t) t)
+  answered-brings None = λ j. add-brings k j n (t .next) (t .lots)
+  answered-brings (Some e) = tt
+
+  answered-keeps : (refusal : Option Refusal) → Kept-if-refused t (answered refusal (serial-for k (t .next) (t .lots)) (table-after-purchase k n t) t)
+  answered-keeps None = tt
+  answered-keeps (Some e) = refl
+
+  pub brings : (p : Result ℕ Refusal × Table) → p ≡ purchased k n t → Brings-units k n t p
+  brings p e = subst (λ (q : Result ℕ Refusal × Table). Brings-units k n t q) (sym e) (answered-brings (purchase-refusal k n t))
+
+  pub keeps : (p : Result ℕ Refusal × Table) → p ≡ purchased k n t → Kept-if-refused t p
+  keeps p e = subst (λ (q : Result ℕ Refusal × Table). Kept-if-refused t q) (sym e) (answered-keeps (purchase-refusal k n t))
+
+  -- a new lot that was refused for want of a serial too
+  module _ (small : n ≤ most) (none : Open-at k (t .lots) None) where
+    pub opened-brings : Brings-units k n t (opened k n t)
+    opened-brings =
+        ⊎-elim
+        (λ (low : t .next < last-serial). brings (opened k n t) (opened-is-purchased k n t small none low))
+        (λ (high : last-serial ≤ t .next). subst (λ (q : Result ℕ Refusal × Table). Brings-units k n t q) (sym (opened-late high)) tt)
+        (cases-lt (t .next) last-serial)
+      where
+        opened-late : last-serial ≤ t .next → opened k n t ≡ (Err TooManyLots, t)
+        opened-late high =
+            cond-true (leb last-serial (t .next) || leb 256 (length (t .lots))) (Err TooManyLots, t) (Ok (t .next), record { lots = t .lots ++ (record { key = k; units = n; serial = t .next } ∷ []); next = t .next + 1 }) (or-left (leb last-serial (t .next)) (leb 256 (length (t .lots))) (le-leb last-serial (t .next) high))
+
+  pub opened-keeps : Kept-if-refused t (opened k n t)
+  opened-keeps =
+      by-bool (leb last-serial (t .next) || leb 256 (length (t .lots))) (λ (b : Bool). Kept-if-refused t (cond b (Err TooManyLots, t) (Ok (t .next), record { lots = t .lots ++ (record { key = k; units = n; serial = t .next } ∷ []); next = t .next + 1 }))) (λ _. refl) (λ _. tt)

@@ -22,7 +22,7 @@ use Rattle.matching.proofs.Sums.{by-bool}
 use Rattle.matching.proofs.Drawing.{closed-form-is-drawn}
 use Rattle.matching.proofs.Earliest.{unsettled-from, unsettled-to}
 use Rattle.stock.specs.Tables.{Table, answered, reduced, table-after-reduction}
-use Rattle.stock.specs.Reductions.{refused-by, Refused-exactly, Draws-earliest-first, Kept-if-refused}
+use Rattle.stock.specs.Promises.{refused-by, Refused-exactly, Draws-earliest-first, Kept-if-refused}
 use Rattle.stock.specs.Kept.{Well-kept}
 use Rattle.stock.proofs.Keeping.{some-units}
 

@@ -1,6 +1,6 @@
 pub mod Kept
 pub mod Tables
 pub mod Places
-pub mod Reductions
+pub mod Promises
 pub mod View
 pub mod Weights

@@ -7,6 +7,7 @@ ghost use Rattle.bounded.specs.Items.{items};
 ghost use Rattle.lots.specs.Rows.{row-of};
 ghost use Rattle.stock.specs.Places.{Open-at, grown-at, opened};
 ghost use Rattle.stock.specs.Tables.{last-serial, purchased, purchased-late};
+ghost use Rattle.stock.specs.Promises.{Brings-units, Kept-if-refused};
 ghost use Rattle.stock.specs.View.{table-of};
 
 use super::LotTable;
@@ -34,6 +35,8 @@ impl LotTable {
     pub fn purchase(&mut self, bought: &Lot) -> Result<u32, Refusal>
         ensures booked { λ r. ⌜ (table-of (now (self .entry)) .next < last-serial → (r, table-of (now (self .exit))) ≡ purchased (row-of (now (bought .entry)) .key) (row-of (now (bought .entry)) .units) (table-of (now (self .entry)))) ⌝ }
         ensures out_of_serials { λ r. ⌜ (last-serial ≤ table-of (now (self .entry)) .next → (r, table-of (now (self .exit))) ≡ purchased-late (row-of (now (bought .entry)) .key) (row-of (now (bought .entry)) .units) (table-of (now (self .entry)))) ⌝ }
+        ensures brings_units { λ r. ⌜ Brings-units (row-of (now (bought .entry)) .key) (row-of (now (bought .entry)) .units) (table-of (now (self .entry))) (r, table-of (now (self .exit))) ⌝ }
+        ensures refusal_changes_nothing { λ r. ⌜ Kept-if-refused (table-of (now (self .entry))) (r, table-of (now (self .exit))) ⌝ }
     {
         match place_of(self.rows.as_slice(), &bought.key()) {
             Some(place) => self.grow(place, bought.units()),

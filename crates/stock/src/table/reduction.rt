@@ -8,7 +8,7 @@ ghost use Rattle.matching.specs.Drawing.{settled, draws-of};
 ghost use Rattle.matching.specs.Drawn.{Too-few, Unsettled};
 ghost use Rattle.stock.specs.Tables.{reduced, table-after-reduction};
 ghost use Rattle.stock.specs.Places.{taken-at};
-ghost use Rattle.stock.specs.Reductions.{map-ok, Draws-earliest-first, Refused-exactly, Kept-if-refused};
+ghost use Rattle.stock.specs.Promises.{map-ok, Draws-earliest-first, Refused-exactly, Kept-if-refused};
 ghost use Rattle.stock.specs.View.{table-of};
 
 use super::LotTable;

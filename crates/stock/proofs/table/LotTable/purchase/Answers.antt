@@ -1,4 +1,4 @@
-use mathlib.Core.Path.{_≡_, ap, subst, _∙_}
+use mathlib.Core.Path.{_≡_, ap, sym, subst, _∙_}
 use mathlib.Core.List.{List}
 use Prim.Native.Nat.{ℕ}
 use Rattle.std.specs.declared.option.Option.{Option}
@@ -7,10 +7,14 @@ use Rattle.bounded.specs.Items.{items}
 use Rattle.bounded.proofs.Capacity.{items-within}
 use Rattle.lots.specs.declared.rows.Key.{Key}
 use Rattle.lots.specs.declared.rows.LotRow.{LotRow}
+use Rattle.std.specs.declared.result.Result.{Result}
+use Rattle.refusal.specs.declared.Refusal.{Refusal}
+use Rattle.stock.specs.Tables.{Table}
+use Rattle.stock.specs.Promises.{Brings-units, Kept-if-refused}
 use Rattle.stock.specs.Places.{Open-at, grown-at}
 use Rattle.stock.specs.View.{table-of}
 use Rattle.stock.proofs.Keeping.{in-words}
-use Rattle.stock.proofs.Purchases.{grown-is-purchased, grown-is-late, opened-is-purchased, opened-is-late}
+use Rattle.stock.proofs.Purchases.{grown-is-purchased, grown-is-late, opened-is-purchased, opened-is-late, brings, keeps, opened-brings, opened-keeps}
 use Rattle.stock.proofs.table.LotTable.purchase.Needs as need
 
 -- what the search for the place found, in the table's own words
@@ -25,9 +29,13 @@ returns-in-Some c =
     let at = found (c .key .result) (b .key) (c .as-slice .result .now) (items (t .rows)) (c .place-of .result) (Some (c .in-Some .place)) (c .key .ensures) (c .as-slice .ensures .items) (c .in-Some .is) (c .place-of .ensures) in
     let kept = in-words (items (t .rows)) (t .next) (items-within (t .rows)) (t .kept) in
     let grew = c .grow .ensures ∙ ap (λ (n : ℕ). grown-at (c .in-Some .place) n (table-of t)) (c .units .ensures) in
+    let is = grew ∙ grown-is-purchased (b .key) (b .units) (table-of t) kept (c .in-Some .place) at in
+    let p : Result ℕ Refusal × Table = (c .grow .result, table-of (c .grow .last .self)) in
     record {
-      booked = λ _. grew ∙ grown-is-purchased (b .key) (b .units) (table-of t) kept (c .in-Some .place) at;
+      booked = λ _. is;
       out-of-serials = λ _. grew ∙ grown-is-late (b .key) (b .units) (table-of t) kept (c .in-Some .place) at;
+      brings-units = brings (b .key) (b .units) (table-of t) p is;
+      refusal-changes-nothing = keeps (b .key) (b .units) (table-of t) p is;
     }
 
 pub returns-in-None : need.returns-in-None
@@ -38,4 +46,6 @@ returns-in-None c =
     record {
       booked = λ low. c .start .ensures ∙ opened-is-purchased (b .key) (b .units) (table-of t) (b .bounded) at low;
       out-of-serials = λ high. c .start .ensures ∙ opened-is-late (b .key) (b .units) (table-of t) (b .bounded) at high;
+      brings-units = subst (λ (q : Result ℕ Refusal × Table). Brings-units (b .key) (b .units) (table-of t) q) (sym (c .start .ensures)) (opened-brings (b .key) (b .units) (table-of t) (b .bounded) at);
+      refusal-changes-nothing = subst (λ (q : Result ℕ Refusal × Table). Kept-if-refused (table-of t) q) (sym (c .start .ensures)) (opened-keeps (b .key) (b .units) (table-of t));
     }
