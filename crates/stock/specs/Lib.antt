@@ -3,4 +3,3 @@ pub mod Tables
 pub mod Places
 pub mod Promises
 pub mod View
-pub mod Weights

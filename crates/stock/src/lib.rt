@@ -1,3 +1,2 @@
-// The open lots: purchases, reductions, questions, and what lots weigh.
+// The open lots: purchases, reductions and questions.
 pub mod table;
-pub mod weight;

@@ -8,7 +8,7 @@ use matching::wanted::Draw;
 use matching::wanted::Wanted;
 use std::test::*;
 use stock::table::LotTable;
-use stock::weight::*;
+use weights::*;
 
 #[test]
 fn drawn_in_the_policys_order() -> Result<(), Fail> {

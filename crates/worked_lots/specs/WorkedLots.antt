@@ -16,7 +16,7 @@ use Rattle.lots.specs.Orders.{Order, strict, fifo, lifo, whole-lot}
 use Rattle.matching.specs.declared.wanted.Wanted.{Wanted}
 use Rattle.matching.specs.declared.wanted.Draw.{Draw}
 use Rattle.stock.specs.Tables.{Table, no-lots, purchased, reduced}
-use Rattle.stock.specs.Weights.{plain-weight, purchase-weight, draws-weigh}
+use Rattle.weights.specs.Weights.{plain-weight, purchase-weight, draws-weigh}
 
 pub data Answer : Type 0 where
   value : ℤ → Answer

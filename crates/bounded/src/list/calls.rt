@@ -20,13 +20,6 @@ impl<T: Copy, const N: usize> Bounded<T, N> {
         Bounded { slots: [filler; N], len: 0 }
     }
 
-    pub fn len(&self) -> usize
-        ensures length { λ r. ⌜ r ≡ length (items (now (self .entry))) ⌝ }
-        ensures within { λ r. ⌜ r ≤ N ⌝ }
-    {
-        self.len
-    }
-
     pub fn as_slice(&self) -> &[T]
         ensures items { λ r. ⌜ now r ≡ items (now (self .entry)) ⌝ }
         ensures within { λ r. ⌜ length (now r) ≤ N ⌝ }

@@ -4,7 +4,6 @@ ghost use mathlib.Core.Bool.{true, false};
 ghost use Rattle.lots.specs.Rows.{row-of, rows-of, lot-in, shrunk, grown};
 
 use crate::lot::Lot;
-use crate::rows::Key;
 use crate::rows::LotRow;
 
 // The most units of a lot, and the highest unit cost, in hundredths.
@@ -26,24 +25,6 @@ impl Lot {
         ensures { λ r. ⌜ r ≡ row-of (now (self .entry)) ⌝ }
     {
         LotRow { key: self.key, units: self.units, serial: self.serial }
-    }
-
-    pub fn key(&self) -> Key
-        ensures { λ r. ⌜ r ≡ row-of (now (self .entry)) .key ⌝ }
-    {
-        self.key
-    }
-
-    pub fn units(&self) -> u32
-        ensures { λ r. ⌜ r ≡ row-of (now (self .entry)) .units ⌝ }
-    {
-        self.units
-    }
-
-    pub fn serial(&self) -> u32
-        ensures { λ r. ⌜ r ≡ row-of (now (self .entry)) .serial ⌝ }
-    {
-        self.serial
     }
 
     // The lot less so many units; none where that would empty it, since an empty lot does not exist.

@@ -38,8 +38,9 @@ impl LotTable {
         ensures brings_units { λ r. ⌜ Brings-units (row-of (now (bought .entry)) .key) (row-of (now (bought .entry)) .units) (table-of (now (self .entry))) (r, table-of (now (self .exit))) ⌝ }
         ensures refusal_changes_nothing { λ r. ⌜ Kept-if-refused (table-of (now (self .entry))) (r, table-of (now (self .exit))) ⌝ }
     {
-        match place_of(self.rows.as_slice(), &bought.key()) {
-            Some(place) => self.grow(place, bought.units()),
+        let LotRow { key, units, .. } = bought.row();
+        match place_of(self.lots(), &key) {
+            Some(place) => self.grow(place, units),
             None => self.start(bought),
         }
     }
@@ -52,8 +53,9 @@ impl LotTable {
         let Some(lot) = self.lot_at(place).grow(units) else {
             return Err(Refusal::LotTooLarge);
         };
-        self.rows.put(place, lot.row());
-        Ok(lot.serial())
+        let row = lot.row();
+        self.rows.put(place, row);
+        Ok(row.serial)
     }
 
     // A new lot.
@@ -65,7 +67,7 @@ impl LotTable {
         if serial == u32::MAX {
             return Err(Refusal::TooManyLots);
         }
-        match self.rows.push(LotRow { key: bought.key(), units: bought.units(), serial }) {
+        match self.rows.push(LotRow { serial, ..bought.row() }) {
             Ok(()) => {
                 self.next = serial + 1;
                 Ok(serial)

@@ -67,7 +67,7 @@ impl LotTable {
     pub fn lot(&self, serial: u32) -> Option<LotRow>
         ensures { λ r. ⌜ r ≡ lot-of-serial serial (table-of (now (self .entry)) .lots) ⌝ }
     {
-        lot_of_serial(self.rows.as_slice(), serial)
+        lot_of_serial(self.lots(), serial)
     }
 
     // The lot at a place: its row, copied out and found within a lot's ranges.
@@ -75,7 +75,7 @@ impl LotTable {
         requires { ⌜ place < length (items (now self .rows)) ⌝ }
         ensures { λ r. ⌜ row-of r ≡ getD (items (now (self .entry) .rows)) place no-lot ⌝ }
     {
-        let row = self.rows.as_slice()[place];
+        let row = self.lots()[place];
         let Some(lot) = Lot::new(row) else { unreachable() };
         lot
     }

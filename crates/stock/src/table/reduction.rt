@@ -36,7 +36,7 @@ impl LotTable {
         ensures unsettled_is_23 { λ r. ⌜ Refused-exactly 23 (Unsettled (P·Policy .order (now (policy .entry))) (matches (now (wanted .entry))) units (table-of (now (self .entry)) .lots)) (map-ok items r) ⌝ }
         ensures refusal_changes_nothing { λ r. ⌜ Kept-if-refused (table-of (now (self .entry))) (map-ok items r, table-of (now (self .exit))) ⌝ }
     {
-        if units_matching(self.rows.as_slice(), wanted) < units as u128 {
+        if units_matching(self.lots(), wanted) < units as u128 {
             return Err(Refusal::TooFewUnits);
         }
         if !self.settled_by(policy, wanted, units) {
@@ -49,7 +49,7 @@ impl LotTable {
     fn settled_by<P: Policy>(&self, policy: &P, wanted: &Wanted, units: u32) -> bool
         ensures { λ r. ⌜ r ≡ settled (P·Policy .order (now (policy .entry))) (matches (now (wanted .entry))) units (table-of (now (self .entry)) .lots) ⌝ }
     {
-        let rows = self.rows.as_slice();
+        let rows = self.lots();
         match earliest(policy, units, wanted, rows) {
             None => true,
             Some(place) => policy.settles(&Question { units, lots: lots_matching(rows, wanted), earliest: rows[place] }),
@@ -66,7 +66,7 @@ impl LotTable {
         let mut draws = Bounded::new(Draw { lot: NO_LOT, units: 0 });
         let mut left = units;
         while left > 0 {
-            let Some(place) = earliest(policy, units, wanted, self.rows.as_slice()) else {
+            let Some(place) = earliest(policy, units, wanted, self.lots()) else {
                 unreachable()
             };
             let draw = self.take_from(place, left);

@@ -18,7 +18,7 @@ pub unreachable-requires : need.unreachable-requires
 unreachable-requires g c κs =
     let M = matches (c .args .wanted .now) in
     let now = items (c .loop-left .self .rows) in
-    let none = none-left M now (subst (λ (rs : List LotRow). None-match M rs (length rs)) (c .as-slice .ensures .items) (c .in-rest .ensures tt)) in
+    let none = none-left M now (subst (λ (rs : List LotRow). None-match M rs (length rs)) (c .lots .ensures .listed) (c .in-rest .ensures tt)) in
     let enough = c .loop-left .inv .0 .enough in
     omega arith
 
@@ -29,8 +29,8 @@ loop-left-less g c =
     let M = matches (c .args .wanted .now) in
     let l = c .loop-left in
     let now = items (l .self .rows) in
-    let kept = in-words now (l .self .next) (items-within (l .self .rows)) (l .self .kept) in
-    let first = subst (λ (rs : List LotRow). Earliest-at M (o .before u) rs (length rs) (c .in-Some .place)) (c .as-slice .ensures .items) (c .in-Some .ensures tt) in
+    let kept = c .lots .ensures .kept in
+    let first = subst (λ (rs : List LotRow). Earliest-at M (o .before u) rs (length rs) (c .in-Some .place)) (c .lots .ensures .listed) (c .in-Some .ensures tt) in
     let some = taken-some o (g .P·Policy·met .keeps (c .args .policy .now)) M u (items (c .args .self .now .rows)) now (items (l .draws)) (l .left) (l .self .next) (c .in-Some .place) kept (l .inv .0) (c .loop-left-test .taken) first
       (c .take-from-draw .result) (table-of (c .take-from-draw .last .self)) (c .take-from-draw .ensures) in
     omega arith
@@ -45,8 +45,8 @@ loop-left-again g c =
     let now = items (l .self .rows) in
     let d = c .take-from-draw .result in
     let after = table-of (c .take-from-draw .last .self) in
-    let kept = in-words now (l .self .next) (items-within (l .self .rows)) (l .self .kept) in
-    let first = subst (λ (rs : List LotRow). Earliest-at M (o .before u) rs (length rs) (c .in-Some .place)) (c .as-slice .ensures .items) (c .in-Some .ensures tt) in
+    let kept = c .lots .ensures .kept in
+    let first = subst (λ (rs : List LotRow). Earliest-at M (o .before u) rs (length rs) (c .in-Some .place)) (c .lots .ensures .listed) (c .in-Some .ensures tt) in
     let step = taken o (g .P·Policy·met .keeps (c .args .policy .now)) M u old now (items (l .draws)) (l .left) (l .self .next) (c .in-Some .place) kept (l .inv .0) (c .loop-left-test .taken) first d after (c .take-from-draw .ensures) in
     let pushed = pushed-ok 256 (items (l .draws)) (items (c .push .last .self)) d (c .in-Ok .field-0) (c .in-Ok .ensures tt) in
     (subst (λ (ds : List Draw). Under-way M (o .before u) u old (after .lots) ds (l .left - d .units)) (sym (pushed .0)) step,

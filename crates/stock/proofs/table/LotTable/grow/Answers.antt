@@ -18,6 +18,6 @@ ghost-self c =
     let n = c .args .units in
     let x = getD xs (c .args .place) no-lot in
     let grew = grown-some (row-of (c .lot-at .result)) (row-of (c .in-Some .lot)) n (c .in-Some .ensures tt) in
-    let same : c .row .result ≡ with-more x n = c .row .ensures ∙ grew ∙ ap (λ (r : LotRow). with-more r n) (c .lot-at .ensures) in
-    let good = subst (λ (r : LotRow). in-range r ≡ true) (sym (c .row .ensures)) (lot-in-range (c .in-Some .lot)) in
-    (ap (λ (rs : List LotRow). well-kept rs (t .next)) (c .put .ensures) ∙ kept-set xs (t .next) (c .args .place) (x .units + n) (c .row .result) (items-within (t .rows)) (c .pre) same good (t .kept), tt)
+    let same : c .row-row .result ≡ with-more x n = c .row-row .ensures ∙ grew ∙ ap (λ (r : LotRow). with-more r n) (c .lot-at .ensures) in
+    let good = subst (λ (r : LotRow). in-range r ≡ true) (sym (c .row-row .ensures)) (lot-in-range (c .in-Some .lot)) in
+    (ap (λ (rs : List LotRow). well-kept rs (t .next)) (c .put .ensures) ∙ kept-set xs (t .next) (c .args .place) (x .units + n) (c .row-row .result) (items-within (t .rows)) (c .pre) same good (t .kept), tt)

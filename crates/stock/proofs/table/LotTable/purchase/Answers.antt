@@ -4,7 +4,6 @@ use Prim.Native.Nat.{ℕ}
 use Rattle.std.specs.declared.option.Option.{Option}
 use Rattle.std.specs.declared.option.Option.the-variants.{Some, None}
 use Rattle.bounded.specs.Items.{items}
-use Rattle.bounded.proofs.Capacity.{items-within}
 use Rattle.lots.specs.declared.rows.Key.{Key}
 use Rattle.lots.specs.declared.rows.LotRow.{LotRow}
 use Rattle.std.specs.declared.result.Result.{Result}
@@ -13,7 +12,6 @@ use Rattle.stock.specs.Tables.{Table}
 use Rattle.stock.specs.Promises.{Brings-units, Kept-if-refused}
 use Rattle.stock.specs.Places.{Open-at, grown-at}
 use Rattle.stock.specs.View.{table-of}
-use Rattle.stock.proofs.Keeping.{in-words}
 use Rattle.stock.proofs.Purchases.{grown-is-purchased, grown-is-late, opened-is-purchased, opened-is-late, brings, keeps, opened-brings, opened-keeps}
 use Rattle.stock.proofs.table.LotTable.purchase.Needs as need
 
@@ -26,9 +24,9 @@ pub returns-in-Some : need.returns-in-Some
 returns-in-Some c =
     let t = c .args .self .now in
     let b = c .args .bought .now in
-    let at = found (c .key .result) (b .key) (c .as-slice .result .now) (items (t .rows)) (c .place-of .result) (Some (c .in-Some .place)) (c .key .ensures) (c .as-slice .ensures .items) (c .in-Some .is) (c .place-of .ensures) in
-    let kept = in-words (items (t .rows)) (t .next) (items-within (t .rows)) (t .kept) in
-    let grew = c .grow .ensures ∙ ap (λ (n : ℕ). grown-at (c .in-Some .place) n (table-of t)) (c .units .ensures) in
+    let at = found (c .row-units .result .key) (b .key) (c .lots .result .now) (items (t .rows)) (c .place-of .result) (Some (c .in-Some .place)) (ap (λ (r : LotRow). r .key) (c .row-units .ensures)) (c .lots .ensures .listed) (c .in-Some .is) (c .place-of .ensures) in
+    let kept = c .lots .ensures .kept in
+    let grew = c .grow .ensures ∙ ap (λ (r : LotRow). grown-at (c .in-Some .place) (r .units) (table-of t)) (c .row-units .ensures) in
     let is = grew ∙ grown-is-purchased (b .key) (b .units) (table-of t) kept (c .in-Some .place) at in
     let p : Result ℕ Refusal × Table = (c .grow .result, table-of (c .grow .last .self)) in
     record {
@@ -42,7 +40,7 @@ pub returns-in-None : need.returns-in-None
 returns-in-None c =
     let t = c .args .self .now in
     let b = c .args .bought .now in
-    let at = found (c .key .result) (b .key) (c .as-slice .result .now) (items (t .rows)) (c .place-of .result) None (c .key .ensures) (c .as-slice .ensures .items) (c .in-None .is) (c .place-of .ensures) in
+    let at = found (c .row-units .result .key) (b .key) (c .lots .result .now) (items (t .rows)) (c .place-of .result) None (ap (λ (r : LotRow). r .key) (c .row-units .ensures)) (c .lots .ensures .listed) (c .in-None .is) (c .place-of .ensures) in
     record {
       booked = λ low. c .start .ensures ∙ opened-is-purchased (b .key) (b .units) (table-of t) (b .bounded) at low;
       out-of-serials = λ high. c .start .ensures ∙ opened-is-late (b .key) (b .units) (table-of t) (b .bounded) at high;

@@ -6,10 +6,8 @@ use native.Mathlib.Omega.{arith}
 use Rattle.std.specs.declared.result.Result.the-variants.{Ok, Err}
 use Rattle.refusal.specs.declared.Refusal.the-variants.{NotSettledByPolicy}
 use Rattle.bounded.specs.Items.{items}
-use Rattle.bounded.proofs.Capacity.{items-within}
 use Rattle.matching.specs.Matching.{matches, units-matching}
 use Rattle.stock.specs.View.{table-of}
-use Rattle.stock.proofs.Keeping.{in-words}
 use Rattle.stock.proofs.Reducing.{is-covered, promises}
 use Rattle.stock.proofs.table.LotTable.reduce.Needs as need
 
@@ -21,8 +19,8 @@ returns-then-not-settled-by g c =
     let u = c .args .units in
     let o = g .P·Policy .order (c .args .policy .now) in
     let keeps = g .P·Policy·met .keeps (c .args .policy .now) in
-    let kept = in-words xs (t .next) (items-within (t .rows)) (t .kept) in
-    let sum = c .units-matching .ensures ∙ ap (units-matching (matches w)) (c .as-slice .ensures .items) in
+    let kept = c .lots .ensures .kept in
+    let sum = c .units-matching .ensures ∙ ap (units-matching (matches w)) (c .lots .ensures .listed) in
     let enough : u ≤ units-matching (matches w) xs = omega arith in
     let is = is-covered o keeps w u (table-of t) kept enough false (c .if-not-settled-by .ensures tt) in
     let p = promises o keeps w u (table-of t) kept (Err NotSettledByPolicy, table-of t) is in
@@ -36,8 +34,8 @@ returns g c =
     let u = c .args .units in
     let o = g .P·Policy .order (c .args .policy .now) in
     let keeps = g .P·Policy·met .keeps (c .args .policy .now) in
-    let kept = in-words xs (t .next) (items-within (t .rows)) (t .kept) in
-    let sum = c .units-matching .ensures ∙ ap (units-matching (matches w)) (c .as-slice .ensures .items) in
+    let kept = c .lots .ensures .kept in
+    let sum = c .units-matching .ensures ∙ ap (units-matching (matches w)) (c .lots .ensures .listed) in
     let enough : u ≤ units-matching (matches w) xs = omega arith in
     let is = (λ i. (Ok (c .draw .ensures .drawn i), c .draw .ensures .after i)) ∙ is-covered o keeps w u (table-of t) kept enough true (c .if-not-settled-by .ensures tt) in
     let p = promises o keeps w u (table-of t) kept (Ok (items (c .draw .result)), table-of (c .draw .last .self)) is in

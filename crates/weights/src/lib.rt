@@ -3,7 +3,7 @@ ghost use mathlib.Core.Path.{_≡_};
 ghost use Prim.Native.Nat.{_*_};
 ghost use lib.IntN.{pos};
 ghost use Rattle.lots.specs.Rows.{row-of};
-ghost use Rattle.stock.specs.Weights.{plain-weight, purchase-weight, draw-weight};
+ghost use Rattle.weights.specs.Weights.{plain-weight, purchase-weight, draw-weight};
 
 use lots::lot::Lot;
 use matching::wanted::Draw;
@@ -33,8 +33,9 @@ pub fn plain_weight(amount: i32, commodity: u8) -> Weight
 pub fn purchase_weight(bought: &Lot) -> Weight
     ensures { λ r. ⌜ r ≡ purchase-weight (row-of (now (bought .entry)) .key) (row-of (now (bought .entry)) .units) ⌝ }
 {
-    let cost = bought.key().cost;
-    Weight { commodity: cost.commodity, amount: at_cost(bought.units(), cost.number) }
+    let row = bought.row();
+    let cost = row.key.cost;
+    Weight { commodity: cost.commodity, amount: at_cost(row.units, cost.number) }
 }
 
 // A draw weighs units drawn times cost, below zero, in the cost commodity.

@@ -7,7 +7,7 @@ use lib.IntN.{ℤ, pos, _*ℤ_, negℤ}
 use Rattle.lots.specs.declared.rows.Key.{Key}
 use Rattle.matching.specs.declared.wanted.Draw.{Draw}
 use Rattle.matching.specs.Sums.{sum-of-ints}
-use Rattle.stock.specs.declared.weight.Weight.{Weight}
+use Rattle.weights.specs.declared.Weight.{Weight}
 
 -- a plain amount, a whole number of hundredths
 abbrev pub plain-weight : ℤ → ℕ → Weight
