@@ -1,6 +1,5 @@
 // A lot: a row whose units and cost are within their ranges, for as long as it lives.
 ghost use Prim.Native.Nat.{_≤_};
-
 use crate::rows::Key;
 
 pub mod calls;

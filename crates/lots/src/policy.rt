@@ -1,7 +1,6 @@
 // Booking policies: in which order lots are drawn, and whether a reduction is settled.
 ghost use mathlib.Core.Path.{_≡_};
 ghost use Rattle.lots.specs.Orders.{Order, Keeps, strict, fifo, lifo, whole-lot};
-
 use crate::rows::LotRow;
 
 // What a policy is told before it settles a reduction.

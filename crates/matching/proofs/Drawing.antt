@@ -90,15 +90,15 @@ sum-of-one f [] r ri m = absurd m
 sum-of-one f (x ∷ xs) r ri m =
     ⊎-elim
     (λ (e : x ≡ r).
-      let here : cond (eqb (x .serial) (r .serial)) (f x) 0 ≡ f r = cond-true (eqb (x .serial) (r .serial)) (f x) 0 (eq-eqb (x .serial) (r .serial) (ap (λ (y : LotRow). y .serial) e)) ∙ ap f e in
-      let s : x .serial ≡ r .serial = ap (λ (y : LotRow). y .serial) e in
-      let rest = sum-of-zero-all (λ y. cond (eqb (y .serial) (r .serial)) (f y) 0) xs (all-weaker (λ y. x .serial < y .serial) (λ y. cond (eqb (y .serial) (r .serial)) (f y) 0 ≡ 0) (λ y l. cond-false (eqb (y .serial) (r .serial)) (f y) 0 (ne-eqb (y .serial) (r .serial) (λ q. omega arith))) xs (ri .0)) in
-      omega arith)
+    let here : cond (eqb (x .serial) (r .serial)) (f x) 0 ≡ f r = cond-true (eqb (x .serial) (r .serial)) (f x) 0 (eq-eqb (x .serial) (r .serial) (ap (λ (y : LotRow). y .serial) e)) ∙ ap f e in
+    let s : x .serial ≡ r .serial = ap (λ (y : LotRow). y .serial) e in
+    let rest = sum-of-zero-all (λ y. cond (eqb (y .serial) (r .serial)) (f y) 0) xs (all-weaker (λ y. x .serial < y .serial) (λ y. cond (eqb (y .serial) (r .serial)) (f y) 0 ≡ 0) (λ y l. cond-false (eqb (y .serial) (r .serial)) (f y) 0 (ne-eqb (y .serial) (r .serial) (λ q. omega arith))) xs (ri .0)) in
+    omega arith)
     (λ (q : Member xs r).
-      let l = all-member (λ y. x .serial < y .serial) xs r (ri .0) q in
-      let off : cond (eqb (x .serial) (r .serial)) (f x) 0 ≡ 0 = cond-false (eqb (x .serial) (r .serial)) (f x) 0 (ne-eqb (x .serial) (r .serial) (λ z. omega arith)) in
-      let ih = sum-of-one f xs r (ri .1) q in
-      omega arith)
+    let l = all-member (λ y. x .serial < y .serial) xs r (ri .0) q in
+    let off : cond (eqb (x .serial) (r .serial)) (f x) 0 ≡ 0 = cond-false (eqb (x .serial) (r .serial)) (f x) 0 (ne-eqb (x .serial) (r .serial) (λ z. omega arith)) in
+    let ih = sum-of-one f xs r (ri .1) q in
+    omega arith)
     m
 
 -- draws
@@ -130,9 +130,9 @@ member-draws lt g (r ∷ rs) a m ne =
     cond-both (eqb (g r) 0) (draws-in-order lt g rs) (insert-draw lt (record { lot = r; units = g r }) (draws-in-order lt g rs)) (λ ds. Member ds (record { lot = a; units = g a }))
     (λ e. ⊎-elim (λ (q : r ≡ a). absurd (ne (ap g (sym q) ∙ eqb-true (g r) 0 e))) (λ (q : Member rs a). member-draws lt g rs a q ne) m)
     (λ e. ⊎-elim
-      (λ (q : r ≡ a). subst (λ (b : LotRow). Member (insert-draw lt (record { lot = r; units = g r }) (draws-in-order lt g rs)) (record { lot = b; units = g b })) q (member-insert-here lt (record { lot = r; units = g r }) (draws-in-order lt g rs)))
-      (λ (q : Member rs a). member-insert-there lt (record { lot = r; units = g r }) (record { lot = a; units = g a }) (draws-in-order lt g rs) (member-draws lt g rs a q ne))
-      m)
+    (λ (q : r ≡ a). subst (λ (b : LotRow). Member (insert-draw lt (record { lot = r; units = g r }) (draws-in-order lt g rs)) (record { lot = b; units = g b })) q (member-insert-here lt (record { lot = r; units = g r }) (draws-in-order lt g rs)))
+    (λ (q : Member rs a). member-insert-there lt (record { lot = r; units = g r }) (record { lot = a; units = g a }) (draws-in-order lt g rs) (member-draws lt g rs a q ne))
+    m)
 
 pub left-same : (f g : LotRow → ℕ) (xs : List LotRow) → All (λ r. f r ≡ g r) xs → lots-left f xs ≡ lots-left g xs
 left-same f g [] all = refl
@@ -143,21 +143,20 @@ left-same f g (r ∷ rs) all =
 module _ (M : LotRow → Bool) (lt : LotRow → LotRow → Bool)
     (irr : (a : LotRow) → lt a a ≡ false) (trans : (a b c : LotRow) → lt a b ≡ true → lt b c ≡ true → lt a c ≡ true)
     (one : (a b : LotRow) → (a .serial ≡ b .serial → ⊥) → lt a b ≡ not (lt b a)) where
-
   -- a matching lot that comes before another is units-before of it with all that is units-before of itself
   units-before-gap : (xs : List LotRow) (a b : LotRow) → Member xs a → M a ≡ true → lt a b ≡ true → units-before M lt xs a + a .units ≤ units-before M lt xs b
   units-before-gap xs a b there fits before =
       sum-of-gap (units-if (λ y. M y && lt y a)) (units-if (λ y. M y && lt y b)) (a .units)
       (λ r. ⊎-elim
-        (λ (y : (M r && lt r a) ≡ true).
-          let p = and-parts (M r) (lt r a) y in
-          let q = cond-true (M r && lt r b) (r .units) 0 (and-from (M r) (lt r b) (p .0) (trans r a b (p .1) before)) in
-          let s = cond-true (M r && lt r a) (r .units) 0 y in omega arith)
-        (λ (n : (M r && lt r a) ≡ false). let s = cond-false (M r && lt r a) (r .units) 0 n in omega arith)
-        (cases-bool (M r && lt r a)))
+      (λ (y : (M r && lt r a) ≡ true).
+      let p = and-parts (M r) (lt r a) y in
+      let q = cond-true (M r && lt r b) (r .units) 0 (and-from (M r) (lt r b) (p .0) (trans r a b (p .1) before)) in
+      let s = cond-true (M r && lt r a) (r .units) 0 y in omega arith)
+      (λ (n : (M r && lt r a) ≡ false). let s = cond-false (M r && lt r a) (r .units) 0 n in omega arith)
+      (cases-bool (M r && lt r a)))
       xs a there
       (let p = cond-false (M a && lt a a) (a .units) 0 (and-right (M a) (lt a a) (irr a)) in
-       let q = cond-true (M a && lt a b) (a .units) 0 (and-from (M a) (lt a b) fits before) in omega arith)
+      let q = cond-true (M a && lt a b) (a .units) 0 (and-from (M a) (lt a b) fits before) in omega arith)
 
   ordered-insert : (r : LotRow) (xs : List LotRow) → All (λ s. r .serial ≡ s .serial → ⊥) xs → Ordered lt xs → Ordered lt (insert lt r xs)
   ordered-insert r [] apart o = (tt, tt)
@@ -180,10 +179,10 @@ module _ (M : LotRow → Bool) (lt : LotRow → LotRow → Bool)
       let ih = given-in-order zs (u - z .units) (o .1) in
       let own : cond (lt z z) (z .units) 0 ≡ 0 = cond-false (lt z z) (z .units) 0 (irr z) in
       let later : sum-of (λ y. cond (lt y z) (y .units) 0) zs ≡ 0 = sum-of-zero-all (λ y. cond (lt y z) (y .units) 0) zs (all-weaker (λ y. lt z y ≡ true) (λ y. cond (lt y z) (y .units) 0 ≡ 0)
-        (λ y l. cond-false (lt y z) (y .units) 0 (⊎-elim (λ (b : lt y z ≡ true). absurd (both-ways (lt z z) (irr z) (trans z y z l b))) (λ (b : lt y z ≡ false). b) (cases-bool (lt y z)))) zs (o .0)) in
+      (λ y l. cond-false (lt y z) (y .units) 0 (⊎-elim (λ (b : lt y z ≡ true). absurd (both-ways (lt z z) (irr z) (trans z y z l b))) (λ (b : lt y z ≡ false). b) (cases-bool (lt y z)))) zs (o .0)) in
       let rest = sum-of-same-all (λ r. min (r .units) (u - sum-of (λ y. cond (lt y r) (y .units) 0) (z ∷ zs))) (λ r. min (r .units) (u - z .units - sum-of (λ y. cond (lt y r) (y .units) 0) zs)) zs
-        (all-weaker (λ r. lt z r ≡ true) (λ r. min (r .units) (u - sum-of (λ y. cond (lt y r) (y .units) 0) (z ∷ zs)) ≡ min (r .units) (u - z .units - sum-of (λ y. cond (lt y r) (y .units) 0) zs))
-          (λ r l. let c = cond-true (lt z r) (z .units) 0 l in omega arith) zs (o .0)) in
+      (all-weaker (λ r. lt z r ≡ true) (λ r. min (r .units) (u - sum-of (λ y. cond (lt y r) (y .units) 0) (z ∷ zs)) ≡ min (r .units) (u - z .units - sum-of (λ y. cond (lt y r) (y .units) 0) zs))
+      (λ r l. let c = cond-true (lt z r) (z .units) 0 l in omega arith) zs (o .0)) in
       omega arith
 
   units-before-sorted : (xs : List LotRow) (r : LotRow) → sum-of (λ y. cond (lt y r) (y .units) 0) (sorted M lt xs) ≡ units-before M lt xs r
@@ -211,7 +210,7 @@ module _ (M : LotRow → Bool) (lt : LotRow → LotRow → Bool)
 
     all-from-matches : All (From-match M xs) (draws-in-order lt (gives M lt u xs) xs)
     all-from-matches = all-draws (From-match M xs) lt (gives M lt u xs) xs (all-from-member (λ r. (gives M lt u xs r ≡ 0 → ⊥) → From-match M xs (record { lot = r; units = gives M lt u xs r })) xs
-      (λ r there ne. record { there = there; fits = fits-if r ne; some = omega arith; most = gives-most M lt u xs r }))
+        (λ r there ne. record { there = there; fits = fits-if r ne; some = omega arith; most = gives-most M lt u xs r }))
 
     order-insert : (d : Draw) (ds : List Draw) → All (λ e. d .lot .serial ≡ e .lot .serial → ⊥) ds → In-order lt ds → In-order lt (insert-draw lt d ds)
     order-insert d [] apart o = (tt, tt)
@@ -239,8 +238,8 @@ module _ (M : LotRow → Bool) (lt : LotRow → LotRow → Bool)
 
     all-emptied : All (λ d. (a : LotRow) → Member xs a → M a ≡ true → lt a (d .lot) ≡ true → Member (draws-in-order lt (gives M lt u xs) xs) (record { lot = a; units = a .units })) (draws-in-order lt (gives M lt u xs) xs)
     all-emptied = all-draws (λ d. (a : LotRow) → Member xs a → M a ≡ true → lt a (d .lot) ≡ true → Member (draws-in-order lt (gives M lt u xs) xs) (record { lot = a; units = a .units })) lt (gives M lt u xs) xs
-      (all-from-member (λ r. (gives M lt u xs r ≡ 0 → ⊥) → (a : LotRow) → Member xs a → M a ≡ true → lt a r ≡ true → Member (draws-in-order lt (gives M lt u xs) xs) (record { lot = a; units = a .units })) xs
-      (λ r _ ne a there fits before.
+        (all-from-member (λ r. (gives M lt u xs r ≡ 0 → ⊥) → (a : LotRow) → Member xs a → M a ≡ true → lt a r ≡ true → Member (draws-in-order lt (gives M lt u xs) xs) (record { lot = a; units = a .units })) xs
+        (λ r _ ne a there fits before.
         let e = emptied r a ne there fits before in
         let n = all-member (λ s. 1 ≤ s .units) xs a some there in
         subst (λ (n : ℕ). Member (draws-in-order lt (gives M lt u xs) xs) (record { lot = a; units = n })) e (member-draws lt (gives M lt u xs) xs a there (λ z. omega arith))))

@@ -14,7 +14,7 @@ use Rattle.std.specs.declared.option.Option.the-variants.{Some, None}
 use Rattle.lots.specs.declared.rows.LotRow.{LotRow}
 use Rattle.lots.specs.Rows.{no-lot}
 use Rattle.lots.specs.Orders.{Order, Keeps}
-use Rattle.matching.specs.Matching.{units-matching}
+use Rattle.matching.specs.Matching.{units-matching, lots-matching}
 use Rattle.matching.specs.Places.{None-match, Earliest-at}
 use Rattle.matching.specs.Drawing.{earlier, earliest, settled-with, settled, question}
 use Rattle.matching.specs.Drawn.{Serials-rise, Member, Earliest, Unsettled}
@@ -30,38 +30,49 @@ member-same [] ri a b m n e = absurd m
 member-same (x ∷ xs) ri a b m n e =
     ⊎-elim
     (λ (p : x ≡ a). ⊎-elim
-      (λ (q : x ≡ b). sym p ∙ q)
-      (λ (q : Member xs b). let l = all-member (λ s. x .serial < s .serial) xs b (ri .0) q in let s = ap (λ (r : LotRow). r .serial) p in absurd (omega arith))
-      n)
+    (λ (q : x ≡ b). sym p ∙ q)
+    (λ (q : Member xs b). let l = all-member (λ s. x .serial < s .serial) xs b (ri .0) q in let s = ap (λ (r : LotRow). r .serial) p in absurd (omega arith))
+    n)
     (λ (p : Member xs a). ⊎-elim
-      (λ (q : x ≡ b). let l = all-member (λ s. x .serial < s .serial) xs a (ri .0) p in let s = ap (λ (r : LotRow). r .serial) q in absurd (omega arith))
-      (λ (q : Member xs b). member-same xs (ri .1) a b p q e)
-      n)
+    (λ (q : x ≡ b). let l = all-member (λ s. x .serial < s .serial) xs a (ri .0) p in let s = ap (λ (r : LotRow). r .serial) q in absurd (omega arith))
+    (λ (q : Member xs b). member-same xs (ri .1) a b p q e)
+    n)
     m
 
 module _ (M : LotRow → Bool) (lt : LotRow → LotRow → Bool)
     (irr : (a : LotRow) → lt a a ≡ false) (trans : (a b c : LotRow) → lt a b ≡ true → lt b c ≡ true → lt a c ≡ true)
     (one : (a b : LotRow) → (a .serial ≡ b .serial → ⊥) → lt a b ≡ not (lt b a)) where
-
   best-matching : (r : LotRow) (rs : List LotRow) → M r ≡ true → (e : Option LotRow) → Best M lt rs e → Best M lt (r ∷ rs) (earlier lt r e)
   best-matching r rs m None all = record { there = inl refl; fits = m; least = λ a there fits. ⊎-elim (λ (q : r ≡ a). subst (λ (z : LotRow). lt z r ≡ false) q (irr r)) (λ (q : Member rs a). absurd (both-ways (M a) (all-member (λ s. M s ≡ false) rs a all q) fits)) there }
   best-matching r rs m (Some b) best =
       cond-both (lt r b) (Some r) (Some b) (λ e. Best M lt (r ∷ rs) e)
-      (λ before. record { there = inl refl; fits = m; least = λ a there fits. ⊎-elim
-        (λ (q : r ≡ a). subst (λ (z : LotRow). lt z r ≡ false) q (irr r))
-        (λ (q : Member rs a). ⊎-elim (λ (t : lt a r ≡ true). absurd (both-ways (lt a b) (best .least a q fits) (trans a r b t before))) (λ (f : lt a r ≡ false). f) (cases-bool (lt a r)))
-        there })
-      (λ after. record { there = inr (best .there); fits = best .fits; least = λ a there fits. ⊎-elim
-        (λ (q : r ≡ a). subst (λ (z : LotRow). lt z b ≡ false) q after)
-        (λ (q : Member rs a). best .least a q fits)
-        there })
+      (λ before. record {
+        there = inl refl;
+        fits = m;
+        least = λ a there fits. ⊎-elim
+            (λ (q : r ≡ a). subst (λ (z : LotRow). lt z r ≡ false) q (irr r))
+            (λ (q : Member rs a). ⊎-elim (λ (t : lt a r ≡ true). absurd (both-ways (lt a b) (best .least a q fits) (trans a r b t before))) (λ (f : lt a r ≡ false). f) (cases-bool (lt a r)))
+            there;
+      })
+      (λ after. record {
+        there = inr (best .there);
+        fits = best .fits;
+        least = λ a there fits. ⊎-elim
+            (λ (q : r ≡ a). subst (λ (z : LotRow). lt z b ≡ false) q after)
+            (λ (q : Member rs a). best .least a q fits)
+            there;
+      })
 
   best-other : (r : LotRow) (rs : List LotRow) → M r ≡ false → (e : Option LotRow) → Best M lt rs e → Best M lt (r ∷ rs) e
   best-other r rs m None all = (m, all)
-  best-other r rs m (Some b) best = record { there = inr (best .there); fits = best .fits; least = λ a there fits. ⊎-elim
-    (λ (q : r ≡ a). absurd (both-ways (M a) (subst (λ (z : LotRow). M z ≡ false) q m) fits))
-    (λ (q : Member rs a). best .least a q fits)
-    there }
+  best-other r rs m (Some b) best = record {
+    there = inr (best .there);
+    fits = best .fits;
+    least = λ a there fits. ⊎-elim
+        (λ (q : r ≡ a). absurd (both-ways (M a) (subst (λ (z : LotRow). M z ≡ false) q m) fits))
+        (λ (q : Member rs a). best .least a q fits)
+        there;
+  }
 
   best-is : (xs : List LotRow) → Best M lt xs (earliest M lt xs)
   best-is [] = tt
@@ -125,3 +136,11 @@ module _ (o : Order) (keeps : Keeps o) (M : LotRow → Bool) (u : ℕ) (xs : Lis
   unsettled-to ri h =
       let r = h .1 .0 in
       answer-at M (o .before u) (keeps .irreflexive u) (keeps .transitive u) (keeps .exactly-one u) (λ r. o .settles (question u M xs r)) xs ri r (h .1 .1) (earliest M (o .before u) xs) best ∙ h .1 .2
+
+  -- with one matching lot every policy settles
+  pub settled-one : lots-matching M xs ≡ 1 → settled o M u xs ≡ true
+  settled-one one = at (earliest M (o .before u) xs)
+    where
+      at : (e : Option LotRow) → settled-with (λ r. o .settles (question u M xs r)) e ≡ true
+      at None = refl
+      at (Some r) = keeps .one-settles (question u M xs r) one

@@ -36,6 +36,6 @@ module _ (M : LotRow → Bool) (lt : LotRow → LotRow → Bool) (xs : List LotR
     pub overtakes : ((a b c : LotRow) → lt a b ≡ true → lt b c ≡ true → lt a c ≡ true) → (b : ℕ) → Earliest-at M lt xs n b → lt (getD xs n no-lot) (getD xs b no-lot) ≡ true → Earliest-at M lt xs (n + 1) n
     overtakes trans b e l =
         at-n (λ k h m. ⊎-elim
-          (λ (s : lt (getD xs k no-lot) (getD xs n no-lot) ≡ true). absurd (both-ways (lt (getD xs k no-lot) (getD xs b no-lot)) (e .least k h m) (trans (getD xs k no-lot) (getD xs n no-lot) (getD xs b no-lot) s l)))
-          (λ (s : lt (getD xs k no-lot) (getD xs n no-lot) ≡ false). s)
-          (cases-bool (lt (getD xs k no-lot) (getD xs n no-lot))))
+        (λ (s : lt (getD xs k no-lot) (getD xs n no-lot) ≡ true). absurd (both-ways (lt (getD xs k no-lot) (getD xs b no-lot)) (e .least k h m) (trans (getD xs k no-lot) (getD xs n no-lot) (getD xs b no-lot) s l)))
+        (λ (s : lt (getD xs k no-lot) (getD xs n no-lot) ≡ false). s)
+        (cases-bool (lt (getD xs k no-lot) (getD xs n no-lot))))

@@ -68,7 +68,7 @@ all-zip P Q R f (x ∷ xs) p q = (f x (p .0) (q .0), all-zip P Q R f xs (p .1) (
 
 -- the earliest lot comes before each other that matches
 pub leads-at : (o : Order) → Keeps o → (M : LotRow → Bool) (u : ℕ) (xs : List LotRow) → Serials-rise xs → (i : ℕ) → Earliest-at M (o .before u) xs (length xs) i
-  → Leads M (o .before u) (take i xs) (getD xs i no-lot) (drop (suc i) xs)
+    → Leads M (o .before u) (take i xs) (getD xs i no-lot) (drop (suc i) xs)
 leads-at o keeps M u xs rise i e =
     let lt = o .before u in
     let x = getD xs i no-lot in
@@ -76,13 +76,13 @@ leads-at o keeps M u xs rise i e =
     let split = split-at xs i no-lot (e .within) in
     let least = all-from-member (λ r. M r ≡ true → lt r x ≡ false) xs (λ r there fits. first .least r there fits) in
     let apart = pairs-others (λ r s. r .serial < s .serial) (λ r. x .serial ≡ r .serial → ⊥) (take i xs) x (drop (suc i) xs) (λ r l q. omega arith) (λ r l q. omega arith)
-      (subst (λ (zs : List LotRow). Serials-rise zs) split rise) in
+    (subst (λ (zs : List LotRow). Serials-rise zs) split rise) in
     record {
       fits = e .fits;
       own = keeps .irreflexive u x;
       others = all-zip (λ r. M r ≡ true → lt r x ≡ false) (λ r. x .serial ≡ r .serial → ⊥) (λ r. M r ≡ true → (lt r x ≡ false) × (lt x r ≡ true))
-        (λ r l ne fits. (l fits, keeps .exactly-one u x r ne ∙ ap not (l fits)))
-        (take i xs ++ drop (suc i) xs)
-        (all-without (λ r. M r ≡ true → lt r x ≡ false) (take i xs) x (drop (suc i) xs) (subst (λ (zs : List LotRow). All (λ r. M r ≡ true → lt r x ≡ false) zs) split least))
-        apart;
+          (λ r l ne fits. (l fits, keeps .exactly-one u x r ne ∙ ap not (l fits)))
+          (take i xs ++ drop (suc i) xs)
+          (all-without (λ r. M r ≡ true → lt r x ≡ false) (take i xs) x (drop (suc i) xs) (subst (λ (zs : List LotRow). All (λ r. M r ≡ true → lt r x ≡ false) zs) split least))
+          apart;
     }

@@ -40,20 +40,20 @@ insert-front lt d (e ∷ es) all = cond-true (lt (d .lot) (e .lot)) (d ∷ e ∷
 
 -- x gives something, and comes before each other lot that does
 draws-first : (lt : LotRow → LotRow → Bool) (f : LotRow → ℕ) (ys : List LotRow) (x : LotRow) (zs : List LotRow) → (f x ≡ 0 → ⊥)
-  → All (λ r. (f r ≡ 0 → ⊥) → (lt r x ≡ false) × (lt x r ≡ true)) (ys ++ zs)
-  → draws-in-order lt f (ys ++ x ∷ zs) ≡ record { lot = x; units = f x } ∷ draws-in-order lt f (ys ++ zs)
+    → All (λ r. (f r ≡ 0 → ⊥) → (lt r x ≡ false) × (lt x r ≡ true)) (ys ++ zs)
+    → draws-in-order lt f (ys ++ x ∷ zs) ≡ record { lot = x; units = f x } ∷ draws-in-order lt f (ys ++ zs)
 draws-first lt f [] x zs some all =
     cond-false (eqb (f x) 0) (draws-in-order lt f zs) (insert-draw lt (record { lot = x; units = f x }) (draws-in-order lt f zs)) (ne-eqb (f x) 0 some)
     ∙ insert-front lt (record { lot = x; units = f x }) (draws-in-order lt f zs)
-      (all-draws (λ e. lt x (e .lot) ≡ true) lt f zs (all-weaker (λ r. (f r ≡ 0 → ⊥) → (lt r x ≡ false) × (lt x r ≡ true)) (λ r. (f r ≡ 0 → ⊥) → lt x r ≡ true) (λ r h ne. h ne .1) zs all))
+    (all-draws (λ e. lt x (e .lot) ≡ true) lt f zs (all-weaker (λ r. (f r ≡ 0 → ⊥) → (lt r x ≡ false) × (lt x r ≡ true)) (λ r. (f r ≡ 0 → ⊥) → lt x r ≡ true) (λ r h ne. h ne .1) zs all))
 draws-first lt f (y ∷ ys) x zs some all =
     let dx : Draw = record { lot = x; units = f x } in
     let dy : Draw = record { lot = y; units = f y } in
     let D = draws-in-order lt f (ys ++ zs) in
     ap (λ (ds : List Draw). cond (eqb (f y) 0) ds (insert-draw lt dy ds)) (draws-first lt f ys x zs some (all .1))
     ∙ by-bool (eqb (f y) 0) (λ (b : Bool). cond b (dx ∷ D) (insert-draw lt dy (dx ∷ D)) ≡ dx ∷ cond b D (insert-draw lt dy D))
-      (λ _. refl)
-      (λ e. cond-false (lt y x) (dy ∷ dx ∷ D) (dx ∷ insert-draw lt dy D) (all .0 (eqb-false (f y) 0 e) .0))
+    (λ _. refl)
+    (λ e. cond-false (lt y x) (dy ∷ dx ∷ D) (dx ∷ insert-draw lt dy D) (all .0 (eqb-false (f y) 0 e) .0))
 
 -- what is left
 fewer-none : (r : LotRow) → with-fewer r 0 ≡ r
@@ -74,7 +74,7 @@ left-gone f [] x zs h = cond-true (leb (x .units) (f x)) (lots-left f zs) (with-
 left-gone f (y ∷ ys) x zs h = ap (λ (rs : List LotRow). cond (leb (y .units) (f y)) rs (with-fewer y (f y) ∷ rs)) (left-gone f ys x zs h)
 
 left-part : (f : LotRow → ℕ) (ys : List LotRow) (x : LotRow) (zs : List LotRow) → f x < x .units → All (λ r. f r ≡ 0) (ys ++ zs) → All (λ r. 1 ≤ r .units) (ys ++ zs)
-  → lots-left f (ys ++ x ∷ zs) ≡ ys ++ with-fewer x (f x) ∷ zs
+    → lots-left f (ys ++ x ∷ zs) ≡ ys ++ with-fewer x (f x) ∷ zs
 left-part f [] x zs h none some =
     cond-false (leb (x .units) (f x)) (lots-left f zs) (with-fewer x (f x) ∷ lots-left f zs) (lt-leb (x .units) (f x) h)
     ∙ ap (λ (ss : List LotRow). with-fewer x (f x) ∷ ss) (left-none f zs none some)
@@ -101,8 +101,8 @@ module _ (M : LotRow → Bool) (lt : LotRow → LotRow → Bool) (ys : List LotR
       let s = sum-of-split f ys x zs in
       let own : f x ≡ 0 = cond-false (M x && lt x x) (x .units) 0 (and-right (M x) (lt x x) (leads .own)) in
       let rest = sum-of-zero-all f (ys ++ zs) (all-weaker (λ r. M r ≡ true → (lt r x ≡ false) × (lt x r ≡ true)) (λ r. f r ≡ 0)
-        (λ r h. by-bool (M r) (λ (b : Bool). (b ≡ true → (lt r x ≡ false) × (lt x r ≡ true)) → cond (b && lt r x) (r .units) 0 ≡ 0) (λ _ k. cond-false (lt r x) (r .units) 0 (k refl .0)) (λ _ _. refl) h)
-        (ys ++ zs) (leads .others)) in
+      (λ r h. by-bool (M r) (λ (b : Bool). (b ≡ true → (lt r x ≡ false) × (lt x r ≡ true)) → cond (b && lt r x) (r .units) 0 ≡ 0) (λ _ k. cond-false (lt r x) (r .units) 0 (k refl .0)) (λ _ _. refl) h)
+      (ys ++ zs) (leads .others)) in
       omega arith
 
   -- x comes before each other matching lot
@@ -118,22 +118,22 @@ module _ (M : LotRow → Bool) (lt : LotRow → LotRow → Bool) (ys : List LotR
 
   gives-others : (n : ℕ) → x .units ≤ n → All (λ r. gives M lt n (ys ++ x ∷ zs) r ≡ gives M lt (n - x .units) (ys ++ zs) r) (ys ++ zs)
   gives-others n h = all-weaker (λ r. M r ≡ true → (lt r x ≡ false) × (lt x r ≡ true)) (λ r. gives M lt n (ys ++ x ∷ zs) r ≡ gives M lt (n - x .units) (ys ++ zs) r)
-    (λ r k. by-bool (M r) (λ (b : Bool). (b ≡ true → (lt r x ≡ false) × (lt x r ≡ true)) → cond b (min (r .units) (n - units-before M lt (ys ++ x ∷ zs) r)) 0 ≡ cond b (min (r .units) (n - x .units - units-before M lt (ys ++ zs) r)) 0)
+      (λ r k. by-bool (M r) (λ (b : Bool). (b ≡ true → (lt r x ≡ false) × (lt x r ≡ true)) → cond b (min (r .units) (n - units-before M lt (ys ++ x ∷ zs) r)) 0 ≡ cond b (min (r .units) (n - x .units - units-before M lt (ys ++ zs) r)) 0)
       (λ _ k. let m = before-more r (k refl .1) in omega arith) (λ _ _. refl) k)
-    (ys ++ zs) (leads .others)
+      (ys ++ zs) (leads .others)
 
   gives-nothing : (n : ℕ) → n ≤ x .units → All (λ r. gives M lt n (ys ++ x ∷ zs) r ≡ 0) (ys ++ zs)
   gives-nothing n h = all-weaker (λ r. M r ≡ true → (lt r x ≡ false) × (lt x r ≡ true)) (λ r. gives M lt n (ys ++ x ∷ zs) r ≡ 0)
-    (λ r k. by-bool (M r) (λ (b : Bool). (b ≡ true → (lt r x ≡ false) × (lt x r ≡ true)) → cond b (min (r .units) (n - units-before M lt (ys ++ x ∷ zs) r)) 0 ≡ 0)
+      (λ r k. by-bool (M r) (λ (b : Bool). (b ≡ true → (lt r x ≡ false) × (lt x r ≡ true)) → cond b (min (r .units) (n - units-before M lt (ys ++ x ∷ zs) r)) 0 ≡ 0)
       (λ _ k. let m = before-more r (k refl .1) in omega arith) (λ _ _. refl) k)
-    (ys ++ zs) (leads .others)
+      (ys ++ zs) (leads .others)
 
   -- only a matching lot gives something
   ordered : (n : ℕ) → All (λ r. (gives M lt n (ys ++ x ∷ zs) r ≡ 0 → ⊥) → (lt r x ≡ false) × (lt x r ≡ true)) (ys ++ zs)
   ordered n = all-weaker (λ r. M r ≡ true → (lt r x ≡ false) × (lt x r ≡ true)) (λ r. (gives M lt n (ys ++ x ∷ zs) r ≡ 0 → ⊥) → (lt r x ≡ false) × (lt x r ≡ true))
-    (λ r k. by-bool (M r) (λ (b : Bool). (b ≡ true → (lt r x ≡ false) × (lt x r ≡ true)) → (cond b (min (r .units) (n - units-before M lt (ys ++ x ∷ zs) r)) 0 ≡ 0 → ⊥) → (lt r x ≡ false) × (lt x r ≡ true))
+      (λ r k. by-bool (M r) (λ (b : Bool). (b ≡ true → (lt r x ≡ false) × (lt x r ≡ true)) → (cond b (min (r .units) (n - units-before M lt (ys ++ x ∷ zs) r)) 0 ≡ 0 → ⊥) → (lt r x ≡ false) × (lt x r ≡ true))
       (λ _ k _. k refl) (λ _ _ ne. absurd (ne refl)) k)
-    (ys ++ zs) (leads .others)
+      (ys ++ zs) (leads .others)
 
   -- x is drawn to its last unit
   pub draws-whole : (n : ℕ) → 1 ≤ x .units → x .units ≤ n → draws M lt n (ys ++ x ∷ zs) ≡ record { lot = x; units = x .units } ∷ draws M lt (n - x .units) (ys ++ zs)

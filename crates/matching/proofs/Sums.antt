@@ -31,7 +31,7 @@ sum-of-insert F lt d (e ∷ es) =
     cond-both (lt (d .lot) (e .lot)) (d ∷ e ∷ es) (e ∷ insert-draw lt d es) (λ xs. sum-of F xs ≡ F d + sum-of F (e ∷ es)) (λ _. refl) (λ _. omega arith)
 
 pub sum-of-draws : (F : Draw → ℕ) (lt : LotRow → LotRow → Bool) (g : LotRow → ℕ) → ((r : LotRow) → g r ≡ 0 → F (record { lot = r; units = g r }) ≡ 0)
-  → (lots : List LotRow) → sum-of F (draws-in-order lt g lots) ≡ sum-of (λ r. F (record { lot = r; units = g r })) lots
+    → (lots : List LotRow) → sum-of F (draws-in-order lt g lots) ≡ sum-of (λ r. F (record { lot = r; units = g r })) lots
 sum-of-draws F lt g none [] = refl
 sum-of-draws F lt g none (r ∷ rs) =
     let ih = sum-of-draws F lt g none rs in

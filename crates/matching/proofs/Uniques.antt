@@ -23,18 +23,18 @@ member-inserted lt r x [] m = m
 member-inserted lt r x (y ∷ ys) m =
     cond-both (lt r y) (r ∷ y ∷ ys) (y ∷ insert lt r ys) (λ zs. Member zs x) (λ _. m)
     (λ _. ⊎-elim
-      (λ (q : r ≡ x). inr (member-inserted lt r x ys (inl q)))
-      (⊎-elim (λ (q : y ≡ x). inl q) (λ (q : Member ys x). inr (member-inserted lt r x ys (inr q))))
-      m)
+    (λ (q : r ≡ x). inr (member-inserted lt r x ys (inl q)))
+    (⊎-elim (λ (q : y ≡ x). inl q) (λ (q : Member ys x). inr (member-inserted lt r x ys (inr q))))
+    m)
 
 inserted-member : (lt : LotRow → LotRow → Bool) (r x : LotRow) (xs : List LotRow) → Member (insert lt r xs) x → (r ≡ x) ⊎ Member xs x
 inserted-member lt r x [] = λ m. m
 inserted-member lt r x (y ∷ ys) =
     cond-both (lt r y) (r ∷ y ∷ ys) (y ∷ insert lt r ys) (λ zs. Member zs x → (r ≡ x) ⊎ Member (y ∷ ys) x) (λ _ m. m)
     (λ _ m. ⊎-elim
-      (λ (q : y ≡ x). inr (inl q))
-      (λ (q : Member (insert lt r ys) x). ⊎-elim (λ (p : r ≡ x). inl p) (λ (p : Member ys x). inr (inr p)) (inserted-member lt r x ys q))
-      m)
+    (λ (q : y ≡ x). inr (inl q))
+    (λ (q : Member (insert lt r ys) x). ⊎-elim (λ (p : r ≡ x). inl p) (λ (p : Member ys x). inr (inr p)) (inserted-member lt r x ys q))
+    m)
 
 member-sorted : (M : LotRow → Bool) (lt : LotRow → LotRow → Bool) (x : LotRow) (xs : List LotRow) → Member xs x → M x ≡ true → Member (sorted M lt xs) x
 member-sorted M lt x [] m f = absurd m
@@ -48,9 +48,9 @@ sorted-member M lt x [] = λ m. absurd m
 sorted-member M lt x (r ∷ rs) =
     cond-both (M r) (insert lt r (sorted M lt rs)) (sorted M lt rs) (λ zs. Member zs x → Member (r ∷ rs) x × (M x ≡ true))
     (λ e m. ⊎-elim
-      (λ (q : r ≡ x). (inl q, subst (λ (z : LotRow). M z ≡ true) q e))
-      (λ (q : Member (sorted M lt rs) x). let h = sorted-member M lt x rs q in (inr (h .0), h .1))
-      (inserted-member lt r x (sorted M lt rs) m))
+    (λ (q : r ≡ x). (inl q, subst (λ (z : LotRow). M z ≡ true) q e))
+    (λ (q : Member (sorted M lt rs) x). let h = sorted-member M lt x rs q in (inr (h .0), h .1))
+    (inserted-member lt r x (sorted M lt rs) m))
     (λ e m. let h = sorted-member M lt x rs m in (inr (h .0), h .1))
 
 -- draws from lots in order, each to its last unit
@@ -79,18 +79,18 @@ module _ (lt : LotRow → LotRow → Bool) (irr : (a : LotRow) → lt a a ≡ fa
 
   -- a lot drawn first is the first of the lots
   first-lot : (z : LotRow) (zs : List LotRow) (d : Draw) (ds : List Draw) → Ordered lt (z ∷ zs) → All (λ e. lt (d .lot) (e .lot) ≡ true) ds → From (z ∷ zs) d
-    → ((a : LotRow) → Member (z ∷ zs) a → lt a (d .lot) ≡ true → Member (d ∷ ds) (record { lot = a; units = a .units })) → z ≡ d .lot
+      → ((a : LotRow) → Member (z ∷ zs) a → lt a (d .lot) ≡ true → Member (d ∷ ds) (record { lot = a; units = a .units })) → z ≡ d .lot
   first-lot z zs d ds o later from emptied =
       ⊎-elim
       (λ (q : z ≡ d .lot). q)
       (λ (q : Member zs (d .lot)).
-        let before = all-member (λ s. lt z s ≡ true) zs (d .lot) (o .0) q in
-        ⊎-elim
-        (λ (p : d ≡ record { lot = z; units = z .units }). sym (ap (λ (e : Draw). e .lot) p))
-        (λ (p : Member ds (record { lot = z; units = z .units })).
-          let back = all-member (λ e. lt (d .lot) (e .lot) ≡ true) ds (record { lot = z; units = z .units }) later p in
-          absurd (both-ways (lt z z) (irr z) (trans z (d .lot) z before back)))
-        (emptied z (inl refl) before))
+      let before = all-member (λ s. lt z s ≡ true) zs (d .lot) (o .0) q in
+      ⊎-elim
+      (λ (p : d ≡ record { lot = z; units = z .units }). sym (ap (λ (e : Draw). e .lot) p))
+      (λ (p : Member ds (record { lot = z; units = z .units })).
+      let back = all-member (λ e. lt (d .lot) (e .lot) ≡ true) ds (record { lot = z; units = z .units }) later p in
+      absurd (both-ways (lt z z) (irr z) (trans z (d .lot) z before back)))
+      (emptied z (inl refl) before))
       (from .there)
 
   same-draw : (d : Draw) (z : LotRow) (n : ℕ) → z ≡ d .lot → d .units ≡ n → d ≡ record { lot = z; units = n }
@@ -116,29 +116,29 @@ module _ (lt : LotRow → LotRow → Bool) (irr : (a : LotRow) → lt a a ≡ fa
       let lot = first-lot z zs d (e ∷ es) o later from (f .emptied .0) in
       let after = subst (λ (r : LotRow). All (λ x. lt r (x .lot) ≡ true) (e ∷ es)) (sym lot) later in
       let whole : d ≡ record { lot = z; units = z .units } =
-        ⊎-elim (λ (p : d ≡ record { lot = z; units = z .units }). p)
-        (λ (p : Member (e ∷ es) (record { lot = z; units = z .units })). absurd (both-ways (lt z z) (irr z) (all-member (λ x. lt z (x .lot) ≡ true) (e ∷ es) (record { lot = z; units = z .units }) after p)))
-        (f .emptied .1 .0 z (inl refl) (after .0)) in
+      ⊎-elim (λ (p : d ≡ record { lot = z; units = z .units }). p)
+      (λ (p : Member (e ∷ es) (record { lot = z; units = z .units })). absurd (both-ways (lt z z) (irr z) (all-member (λ x. lt z (x .lot) ≡ true) (e ∷ es) (record { lot = z; units = z .units }) after p)))
+      (f .emptied .1 .0 z (inl refl) (after .0)) in
       let n : d .units ≡ z .units = ap (λ (x : Draw). x .units) whole in
       let all = f .exactly in
       let some = from .some in
       let narrowed : All (From zs) (e ∷ es) = all-from-member (From zs) (e ∷ es) (λ x m.
-        let from-x = all-member (From (z ∷ zs)) (e ∷ es) x (f .each .1) m in
-        record {
-          there = ⊎-elim (λ (p : z ≡ x .lot). absurd (never z (x .lot) (all-member (λ y. lt z (y .lot) ≡ true) (e ∷ es) x after m) p)) (λ (p : Member zs (x .lot)). p) (from-x .there);
-          some = from-x .some;
-          most = from-x .most;
-        }) in
+      let from-x = all-member (From (z ∷ zs)) (e ∷ es) x (f .each .1) m in
+      record {
+        there = ⊎-elim (λ (p : z ≡ x .lot). absurd (never z (x .lot) (all-member (λ y. lt z (y .lot) ≡ true) (e ∷ es) x after m) p)) (λ (p : Member zs (x .lot)). p) (from-x .there);
+        some = from-x .some;
+        most = from-x .most;
+      }) in
       let rest : Fits lt (u - z .units) zs (e ∷ es) = record {
         exactly = omega arith;
         each = narrowed;
         order = f .order .1;
         emptied = all-weaker (λ x. (a : LotRow) → Member (z ∷ zs) a → lt a (x .lot) ≡ true → Member (d ∷ e ∷ es) (record { lot = a; units = a .units })) (λ x. (a : LotRow) → Member zs a → lt a (x .lot) ≡ true → Member (e ∷ es) (record { lot = a; units = a .units }))
-          (λ x g a there before. ⊎-elim
+            (λ x g a there before. ⊎-elim
             (λ (p : d ≡ record { lot = a; units = a .units }). absurd (never z a (all-member (λ s. lt z s ≡ true) zs a (o .0) there) (lot ∙ ap (λ (y : Draw). y .lot) p)))
             (λ (p : Member (e ∷ es) (record { lot = a; units = a .units })). p)
             (g a (inr there) before))
-          (e ∷ es) (f .emptied .1);
+            (e ∷ es) (f .emptied .1);
       } in
       ap (λ (x : Draw). x ∷ e ∷ es) (same-draw d z (min (z .units) u) lot (omega arith))
       ∙ ap (λ (xs : List Draw). record { lot = z; units = min (z .units) u } ∷ xs) (fits-in-turn zs (u - z .units) (e ∷ es) (o .1) rest)
@@ -150,7 +150,7 @@ module _ (lt : LotRow → LotRow → Bool) (irr : (a : LotRow) → lt a a ≡ fa
     each = all-weaker (From-match M old) (From (sorted M lt old)) (λ d t. record { there = member-sorted M lt (d .lot) old (t .there) (t .fits); some = t .some; most = t .most }) ds (D .from-matches);
     order = D .in-order;
     emptied = all-weaker (λ d. (a : LotRow) → Member old a → M a ≡ true → lt a (d .lot) ≡ true → Member ds (record { lot = a; units = a .units })) (λ d. (a : LotRow) → Member (sorted M lt old) a → lt a (d .lot) ≡ true → Member ds (record { lot = a; units = a .units }))
-      (λ d g a m before. let h = sorted-member M lt a old m in g a (h .0) (h .1) before) ds (D .emptied-before);
+        (λ d g a m before. let h = sorted-member M lt a old m in g a (h .0) (h .1) before) ds (D .emptied-before);
   }
 
 pub one-answer : One-answer
@@ -163,7 +163,7 @@ one-answer o keeps M u old new-one new-two one two ri D E =
 
 -- what satisfies the relation is the closed form
 pub drawn-is-closed-form : (o : Order) → Keeps o → (M : LotRow → Bool) (u : ℕ) (old new : List LotRow) (ds : List Draw) → Serials-rise old → All (λ r. 1 ≤ r .units) old → u ≤ units-matching M old → Drawn M (o .before u) u old new ds
-  → (ds ≡ draws-in-order (o .before u) (gives M (o .before u) u old) old) × (new ≡ lots-left (gives M (o .before u) u old) old)
+    → (ds ≡ draws-in-order (o .before u) (gives M (o .before u) u old) old) × (new ≡ lots-left (gives M (o .before u) u old) old)
 drawn-is-closed-form o keeps M u old new ds ri some enough D =
     one-answer o keeps M u old new (lots-left (gives M (o .before u) u old) old) ds (draws-in-order (o .before u) (gives M (o .before u) u old) old) ri D
     (closed-form-is-drawn M (o .before u) (keeps .irreflexive u) (keeps .transitive u) (keeps .exactly-one u) u old ri some enough)

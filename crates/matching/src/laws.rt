@@ -4,5 +4,4 @@ ghost use Rattle.matching.specs.Drawn.{One-answer};
 // No two lists of draws answer one reduction, and no two lists of lots are left.
 pub fn one_answer()
     ensures { λ _. ⌜ One-answer ⌝ }
-{
-}
+{}

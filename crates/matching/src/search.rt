@@ -4,7 +4,6 @@ ghost use Prim.Native.Nat.{_+_, _<_};
 ghost use lib.ListN.{length};
 ghost use Rattle.matching.specs.Matching.{matches, units-matching, lots-matching};
 ghost use Rattle.matching.specs.Places.{Found};
-
 use crate::wanted::Wanted;
 use lots::policy::Policy;
 use lots::rows::LotRow;
@@ -36,7 +35,14 @@ pub fn lots_matching(rows: &[LotRow], wanted: &Wanted) -> usize
 }
 
 // The earlier of the best so far and the lot at a place.
-fn better<P: Policy>(policy: &P, units: u32, wanted: &Wanted, rows: &[LotRow], best: Option<usize>, place: usize) -> Option<usize>
+fn better<P: Policy>(
+    policy: &P,
+    units: u32,
+    wanted: &Wanted,
+    rows: &[LotRow],
+    best: Option<usize>,
+    place: usize,
+) -> Option<usize>
     requires within { ⌜ place < length (now rows) ⌝ }
     requires found { ⌜ Found (matches (now wanted)) (P·Policy .order (now policy) .before units) (now rows) place best ⌝ }
     ensures { λ r. ⌜ Found (matches (now (wanted .entry))) (P·Policy .order (now (policy .entry)) .before units) (now (rows .entry)) (place + 1) r ⌝ }
@@ -58,7 +64,12 @@ fn better<P: Policy>(policy: &P, units: u32, wanted: &Wanted, rows: &[LotRow], b
 }
 
 // The place of the matching lot that the policy puts first.
-pub fn earliest<P: Policy>(policy: &P, units: u32, wanted: &Wanted, rows: &[LotRow]) -> Option<usize>
+pub fn earliest<P: Policy>(
+    policy: &P,
+    units: u32,
+    wanted: &Wanted,
+    rows: &[LotRow],
+) -> Option<usize>
     ensures { λ r. ⌜ Found (matches (now (wanted .entry))) (P·Policy .order (now (policy .entry)) .before units) (now (rows .entry)) (length (now (rows .entry))) r ⌝ }
 {
     let mut best = None;

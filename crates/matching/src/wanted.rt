@@ -1,7 +1,6 @@
 // What a reduction asks for, and what it draws.
 ghost use mathlib.Core.Path.{_≡_};
 ghost use Rattle.matching.specs.Matching.{cost-agrees, date-agrees, matches};
-
 use lots::rows::Cost;
 use lots::rows::LotRow;
 

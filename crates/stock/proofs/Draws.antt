@@ -98,11 +98,11 @@ module _ (o : Order) (keeps : Keeps o) (M : LotRow → Bool) (u : ℕ) (old now 
   taken d after is =
       ⊎-elim
       (λ (l : left < x .units).
-        let p = is ∙ cond-false (leb (x .units) left) (record { lot = x; units = x .units }, record { lots = removed now i; next = next }) (record { lot = x; units = left }, record { lots = set now i (with-fewer x left); next = next }) (lt-leb (x .units) left l) in
-        subst (λ (q : Draw × Table). Under-way M lt u old (q .1 .lots) (ds ++ q .0 ∷ []) (left - q .0 .units)) (sym p) (part l))
+      let p = is ∙ cond-false (leb (x .units) left) (record { lot = x; units = x .units }, record { lots = removed now i; next = next }) (record { lot = x; units = left }, record { lots = set now i (with-fewer x left); next = next }) (lt-leb (x .units) left l) in
+      subst (λ (q : Draw × Table). Under-way M lt u old (q .1 .lots) (ds ++ q .0 ∷ []) (left - q .0 .units)) (sym p) (part l))
       (λ (l : x .units ≤ left).
-        let p = is ∙ cond-true (leb (x .units) left) (record { lot = x; units = x .units }, record { lots = removed now i; next = next }) (record { lot = x; units = left }, record { lots = set now i (with-fewer x left); next = next }) (le-leb (x .units) left l) in
-        subst (λ (q : Draw × Table). Under-way M lt u old (q .1 .lots) (ds ++ q .0 ∷ []) (left - q .0 .units)) (sym p) (whole l))
+      let p = is ∙ cond-true (leb (x .units) left) (record { lot = x; units = x .units }, record { lots = removed now i; next = next }) (record { lot = x; units = left }, record { lots = set now i (with-fewer x left); next = next }) (le-leb (x .units) left l) in
+      subst (λ (q : Draw × Table). Under-way M lt u old (q .1 .lots) (ds ++ q .0 ∷ []) (left - q .0 .units)) (sym p) (whole l))
       (cases-lt left (x .units))
 
   -- something is drawn
@@ -111,21 +111,22 @@ module _ (o : Order) (keeps : Keeps o) (M : LotRow → Bool) (u : ℕ) (old now 
       let h = units-x in
       subst (λ (n : ℕ). 1 ≤ n) (sym (ap (λ (q : Draw × Table). q .0 .units) is))
       (by-bool (leb (x .units) left) (λ (b : Bool). 1 ≤ (cond {A = Draw × Table} b (record { lot = x; units = x .units }, record { lots = removed now i; next = next }) (record { lot = x; units = left }, record { lots = set now i (with-fewer x left); next = next })) .0 .units)
-        (λ _. h) (λ _. some))
+      (λ _. h) (λ _. some))
 
 -- a draw opens no lot
 pub taken-next : (i n : ℕ) (t : Table) (d : Draw) (after : Table) → (d, after) ≡ taken-at i n t → after .next ≡ t .next
 taken-next i n t d after is =
     ap (λ (q : Draw × Table). q .1 .next) is
     ∙ by-bool (leb (getD (t .lots) i no-lot .units) n)
-      (λ (b : Bool). (cond {A = Draw × Table} b
-        (record { lot = getD (t .lots) i no-lot; units = getD (t .lots) i no-lot .units }, record { lots = removed (t .lots) i; next = t .next })
-        (record { lot = getD (t .lots) i no-lot; units = n }, record { lots = set (t .lots) i (with-fewer (getD (t .lots) i no-lot) n); next = t .next })) .1 .next ≡ t .next)
-      (λ _. refl) (λ _. refl)
+    (λ (b : Bool). (cond {A = Draw × Table} b
+    (record { lot = getD (t .lots) i no-lot; units = getD (t .lots) i no-lot .units }, record { lots = removed (t .lots) i; next = t .next })
+    (record { lot = getD (t .lots) i no-lot; units = n }, record { lots = set (t .lots) i (with-fewer (getD (t .lots) i no-lot) n); next = t .next })) .1 .next ≡ t .next)
+    (λ _. refl) (λ _. refl)
 
 -- nothing is left to ask
 pub finished : (M : LotRow → Bool) (lt : LotRow → LotRow → Bool) (u : ℕ) (old now : List LotRow) (ds : List Draw) (left : ℕ) → All (λ r. 1 ≤ r .units) now → Under-way M lt u old now ds left → left ≡ 0
-  → (ds ≡ draws M lt u old) × (now ≡ left-over M lt u old)
-finished M lt u old now ds left some w none =
-    (sym (ap (λ (es : List Draw). ds ++ es) (ap (λ (n : ℕ). draws M lt n now) none ∙ draws-zero M lt now) ∙ append-nil ds) ∙ w .drawn,
-      sym (ap (λ (n : ℕ). left-over M lt n now) none ∙ left-zero M lt now some) ∙ w .after)
+    → (ds ≡ draws M lt u old) × (now ≡ left-over M lt u old)
+finished M lt u old now ds left some w none = (
+  sym (ap (λ (es : List Draw). ds ++ es) (ap (λ (n : ℕ). draws M lt n now) none ∙ draws-zero M lt now) ∙ append-nil ds) ∙ w .drawn,
+  sym (ap (λ (n : ℕ). left-over M lt n now) none ∙ left-zero M lt now some) ∙ w .after,
+)

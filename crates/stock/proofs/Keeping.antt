@@ -43,8 +43,8 @@ key-itself k =
     and-from (eqb (k .account) (k .account)) (eqb (k .commodity) (k .commodity) && (same-cost (k .cost) (k .cost) && eqb (k .date) (k .date))) (eq-eqb (k .account) (k .account) refl)
     (and-from (eqb (k .commodity) (k .commodity)) (same-cost (k .cost) (k .cost) && eqb (k .date) (k .date)) (eq-eqb (k .commodity) (k .commodity) refl)
     (and-from (same-cost (k .cost) (k .cost)) (eqb (k .date) (k .date))
-      (and-from (eqb (k .cost .number) (k .cost .number)) (eqb (k .cost .commodity) (k .cost .commodity)) (eq-eqb (k .cost .number) (k .cost .number) refl) (eq-eqb (k .cost .commodity) (k .cost .commodity) refl))
-      (eq-eqb (k .date) (k .date) refl)))
+    (and-from (eqb (k .cost .number) (k .cost .number)) (eqb (k .cost .commodity) (k .cost .commodity)) (eq-eqb (k .cost .number) (k .cost .number) refl) (eq-eqb (k .cost .commodity) (k .cost .commodity) refl))
+    (eq-eqb (k .date) (k .date) refl)))
 
 keys-differ-from : (a b : Key) → not (same-key a b) ≡ true → a ≡ b → ⊥
 keys-differ-from a b n e = both-ways (same-key a b) (not-true (same-key a b) n) (subst (λ (k : Key). same-key a k ≡ true) e (key-itself a))
@@ -96,10 +96,10 @@ module _ (lots : List LotRow) (next : ℕ) where
       and-from (all-pass in-range lots) (leb 1 next && (all-pass (serial-given next) lots && (serials && keys))) (pass-from in-range (λ r. in-range r ≡ true) (λ r e. e) lots (w .ranges))
       (and-from (leb 1 next) (all-pass (serial-given next) lots && (serials && keys)) (le-leb 1 next (w .from-one))
       (and-from (all-pass (serial-given next) lots) (serials && keys)
-        (pass-from (serial-given next) (λ r. (1 ≤ r .serial) × (r .serial < next)) (λ r g. and-from (leb 1 (r .serial)) (ltb (r .serial) next) (le-leb 1 (r .serial) (g .0)) (lt-ltb (r .serial) next (g .1))) lots (w .serials-given))
+      (pass-from (serial-given next) (λ r. (1 ≤ r .serial) × (r .serial < next)) (λ r g. and-from (leb 1 (r .serial)) (ltb (r .serial) next) (le-leb 1 (r .serial) (g .0)) (lt-ltb (r .serial) next (g .1))) lots (w .serials-given))
       (and-from serials keys
-        (pairs-from (λ r s. ltb (r .serial) (s .serial)) (λ r s. r .serial < s .serial) (λ r s l. lt-ltb (r .serial) (s .serial) l) lots (w .serials-rise))
-        (pairs-from (λ r s. not (same-key (r .key) (s .key))) (λ r s. r .key ≡ s .key → ⊥) (λ r s ne. keys-differ-to (r .key) (s .key) ne) lots (w .keys-differ)))))
+      (pairs-from (λ r s. ltb (r .serial) (s .serial)) (λ r s. r .serial < s .serial) (λ r s l. lt-ltb (r .serial) (s .serial) l) lots (w .serials-rise))
+      (pairs-from (λ r s. not (same-key (r .key) (s .key))) (λ r s. r .key ≡ s .key → ⊥) (λ r s ne. keys-differ-to (r .key) (s .key) ne) lots (w .keys-differ)))))
 
 -- each lot has some units
 pub some-units : (lots : List LotRow) → All (λ r. in-range r ≡ true) lots → All (λ r. 1 ≤ r .units) lots

@@ -85,7 +85,7 @@ by-words n held there after serial t =
 
 module _ (k : Key) (n : ℕ) (t : Table) where
   words : (held : ℕ) (there : Bool) (after : List LotRow) (serial : ℕ) → units-of-key k (t .lots) ≡ held → is-open k (t .lots) ≡ there → add-units k n (t .next) (t .lots) ≡ after → serial-for k (t .next) (t .lots) ≡ serial
-    → purchased k n t ≡ by-words n held there after serial t
+      → purchased k n t ≡ by-words n held there after serial t
   words held there after serial e f g h = λ i. by-words n (e i) (f i) (g i) (h i) t
 
   pub grown-is-purchased : Well-kept t → (i : ℕ) → Open-at k (t .lots) (Some i) → grown-at i n t ≡ purchased k n t
@@ -99,10 +99,10 @@ module _ (k : Key) (n : ℕ) (t : Table) where
       let others = pairs-others (λ r s. r .key ≡ s .key → ⊥) (Other k) ys x zs (λ r ne. other-key k r (λ e. ne (e ∙ sym key))) (λ r ne. other-key k r (λ e. ne (key ∙ sym e))) (subst (λ (rs : List LotRow). Keys-differ rs) split (w .keys-differ)) in
       let after = set lots i (with-more x n) in
       let E = words (x .units) true after (x .serial)
-        (ap (units-of-key k) split ∙ units-there k x (at .1) zs ys others)
-        (ap (is-open k) split ∙ open-there k x (at .1) zs ys)
-        (ap (add-units k n (t .next)) split ∙ add-there k x (at .1) zs n (t .next) ys others ∙ sym (set-at lots i (with-more x n) (at .0)))
-        (ap (serial-for k (t .next)) split ∙ serial-there k x (at .1) zs (t .next) ys others) in
+      (ap (units-of-key k) split ∙ units-there k x (at .1) zs ys others)
+      (ap (is-open k) split ∙ open-there k x (at .1) zs ys)
+      (ap (add-units k n (t .next)) split ∙ add-there k x (at .1) zs n (t .next) ys others ∙ sym (set-at lots i (with-more x n) (at .0)))
+      (ap (serial-for k (t .next)) split ∙ serial-there k x (at .1) zs (t .next) ys others) in
       by-bool (ltb most (x .units + n)) (λ (b : Bool). cond b (Err LotTooLarge, t) (Ok (x .serial), record { lots = after; next = t .next }) ≡ answered (cond b (Some LotTooLarge) None) (x .serial) (record { lots = after; next = t .next }) t) (λ _. refl) (λ _. refl)
       ∙ sym E
 

@@ -40,5 +40,5 @@ opened k n t =
 abbrev pub taken-at : ℕ → ℕ → Table → Draw × Table
 taken-at i n t =
     cond (leb (getD (t .lots) i no-lot .units) n)
-      (record { lot = getD (t .lots) i no-lot; units = getD (t .lots) i no-lot .units }, record { lots = removed (t .lots) i; next = t .next })
-      (record { lot = getD (t .lots) i no-lot; units = n }, record { lots = set (t .lots) i (with-fewer (getD (t .lots) i no-lot) n); next = t .next })
+    (record { lot = getD (t .lots) i no-lot; units = getD (t .lots) i no-lot .units }, record { lots = removed (t .lots) i; next = t .next })
+    (record { lot = getD (t .lots) i no-lot; units = n }, record { lots = set (t .lots) i (with-fewer (getD (t .lots) i no-lot) n); next = t .next })

@@ -2,7 +2,7 @@
 use mathlib.Core.Path.{_≡_}
 use mathlib.Core.List.{List}
 use mathlib.Core.Bool.{cond}
-use Prim.Native.Nat.{ℕ, _+_}
+use Prim.Native.Nat.{ℕ, _+_, _≤_}
 use Rattle.std.specs.declared.option.Option.{Option}
 use Rattle.std.specs.declared.option.Option.the-variants.{Some, None}
 use Rattle.std.specs.declared.result.Result.{Result}
@@ -14,7 +14,7 @@ use Rattle.lots.specs.Rows.{same-key}
 use Rattle.lots.specs.Orders.{Order}
 use Rattle.matching.specs.declared.wanted.Wanted.{Wanted}
 use Rattle.matching.specs.declared.wanted.Draw.{Draw}
-use Rattle.matching.specs.Matching.{matches}
+use Rattle.matching.specs.Matching.{matches, units-matching, lots-matching}
 use Rattle.matching.specs.Drawn.{Drawn}
 use Rattle.stock.specs.Tables.{Table, units-of-key}
 
@@ -42,6 +42,10 @@ Brings-units k n t (Err e, after) = Unit {0}
 abbrev pub Draws-earliest-first : Order → Wanted → ℕ → Table → Result (List Draw) Refusal × Table → Type 0
 Draws-earliest-first o w u t (Ok ds, after) = Drawn (matches w) (o .before u) u (t .lots) (after .lots) ds × (after .next ≡ t .next)
 Draws-earliest-first o w u t (Err e, after) = Unit {0}
+
+-- where one lot matches and covers u, the reduction is accepted, whatever the policy
+abbrev pub Accepted-with-one-match : Wanted → ℕ → Table → Result (List Draw) Refusal → Type 0
+Accepted-with-one-match w u t r = lots-matching (matches w) (t .lots) ≡ 1 → u ≤ units-matching (matches w) (t .lots) → refused-by r ≡ None
 
 -- refused, a call keeps every lot and the next serial
 abbrev pub Kept-if-refused : {X : Type 0} → Table → Result X Refusal × Table → Type 0

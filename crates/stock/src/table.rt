@@ -3,7 +3,6 @@ ghost use mathlib.Core.Path.{_≡_};
 ghost use mathlib.Core.Bool.{true};
 ghost use Rattle.bounded.specs.Items.{items};
 ghost use Rattle.stock.specs.Kept.{well-kept};
-
 use bounded::list::Bounded;
 use lots::rows::LotRow;
 

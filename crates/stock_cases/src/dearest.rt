@@ -2,7 +2,6 @@
 ghost use mathlib.Core.Bool.{_&&_, _||_};
 ghost use lib.Chars.{codes};
 ghost use lib.Dec.{eqb, leb, ltb};
-
 use lots::policy::Named;
 use lots::policy::Policy;
 use lots::policy::Question;
@@ -15,14 +14,12 @@ pub impl Named for Dearest as DearestNamed {
 }
 
 pub impl Policy for Dearest as DearestPolicy {
-    ghost order = {
-        λ _. record {
-          name = codes "DEAREST";
-          code = 96;
-          before = λ u a b. ltb (b .key .cost .number) (a .key .cost .number) || (eqb (a .key .cost .number) (b .key .cost .number) && ltb (a .serial) (b .serial));
-          settles = λ q. leb (q .lots) 2;
-        }
-    };
+    ghost order = { λ _. record {
+      name = codes "DEAREST";
+      code = 96;
+      before = λ u a b. ltb (b .key .cost .number) (a .key .cost .number) || (eqb (a .key .cost .number) (b .key .cost .number) && ltb (a .serial) (b .serial));
+      settles = λ q. leb (q .lots) 2;
+    } };
 
     fn name(&self) -> &str {
         Self::NAME
@@ -33,7 +30,8 @@ pub impl Policy for Dearest as DearestPolicy {
     }
 
     fn before(&self, _units: u32, a: &LotRow, b: &LotRow) -> bool {
-        a.key.cost.number > b.key.cost.number || (a.key.cost.number == b.key.cost.number && a.serial < b.serial)
+        a.key.cost.number > b.key.cost.number
+            || (a.key.cost.number == b.key.cost.number && a.serial < b.serial)
     }
 
     fn settles(&self, question: &Question) -> bool {

@@ -4,7 +4,6 @@ ghost use Prim.Native.Nat.{_*_};
 ghost use lib.IntN.{pos};
 ghost use Rattle.lots.specs.Rows.{row-of};
 ghost use Rattle.weights.specs.Weights.{plain-weight, purchase-weight, draw-weight};
-
 use lots::lot::Lot;
 use matching::wanted::Draw;
 
@@ -26,7 +25,10 @@ fn at_cost(units: u32, cost: u32) -> i128
 pub fn plain_weight(amount: i32, commodity: u8) -> Weight
     ensures { λ r. ⌜ r ≡ plain-weight amount commodity ⌝ }
 {
-    Weight { commodity, amount: amount as i128 * 100 }
+    Weight {
+        commodity,
+        amount: amount as i128 * 100,
+    }
 }
 
 // A purchase weighs units times cost, in the cost commodity.
@@ -35,7 +37,10 @@ pub fn purchase_weight(bought: &Lot) -> Weight
 {
     let row = bought.row();
     let cost = row.key.cost;
-    Weight { commodity: cost.commodity, amount: at_cost(row.units, cost.number) }
+    Weight {
+        commodity: cost.commodity,
+        amount: at_cost(row.units, cost.number),
+    }
 }
 
 // A draw weighs units drawn times cost, below zero, in the cost commodity.
@@ -43,5 +48,8 @@ pub fn draw_weight(draw: &Draw) -> Weight
     ensures { λ r. ⌜ r ≡ draw-weight (now (draw .entry)) ⌝ }
 {
     let cost = draw.lot.key.cost;
-    Weight { commodity: cost.commodity, amount: -at_cost(draw.units, cost.number) }
+    Weight {
+        commodity: cost.commodity,
+        amount: -at_cost(draw.units, cost.number),
+    }
 }

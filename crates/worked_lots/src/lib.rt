@@ -4,5 +4,4 @@ ghost use Rattle.worked_lots.specs.WorkedLots.{Worked};
 // Each case comes out as worked by hand.
 pub fn worked_lots()
     ensures { λ _. ⌜ Worked ⌝ }
-{
-}
+{}

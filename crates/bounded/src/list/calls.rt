@@ -5,7 +5,6 @@ ghost use Prim.Native.Nat.{ℕ, _≤_, _<_};
 ghost use lib.ListN.{length, set};
 ghost use Rattle.std.specs.shelf.Lists.{removed};
 ghost use Rattle.bounded.specs.Items.{items, pushed};
-
 use crate::list::Bounded;
 
 // A push found no room.
@@ -17,7 +16,10 @@ impl<T: Copy, const N: usize> Bounded<T, N> {
     pub fn new(filler: T) -> Self
         ensures { λ r. ⌜ items r ≡ [] ⌝ }
     {
-        Bounded { slots: [filler; N], len: 0 }
+        Bounded {
+            slots: [filler; N],
+            len: 0,
+        }
     }
 
     pub fn as_slice(&self) -> &[T]
@@ -73,6 +75,9 @@ impl<T: Copy, const N: usize> Bounded<T, N> {
     pub fn duplicate(&self) -> Self
         ensures { λ r. ⌜ items r ≡ items (now (self .entry)) ⌝ }
     {
-        Bounded { slots: self.slots, len: self.len }
+        Bounded {
+            slots: self.slots,
+            len: self.len,
+        }
     }
 }

@@ -1,8 +1,6 @@
 // How a lot is made from its row, and what can be done with it.
 ghost use mathlib.Core.Path.{_≡_};
-ghost use mathlib.Core.Bool.{true, false};
 ghost use Rattle.lots.specs.Rows.{row-of, rows-of, lot-in, shrunk, grown};
-
 use crate::lot::Lot;
 use crate::rows::LotRow;
 
@@ -17,14 +15,22 @@ impl Lot {
         if row.units < 1 || row.units > MOST || row.key.cost.number > MOST {
             return None;
         }
-        Some(Lot { key: row.key, units: row.units, serial: row.serial })
+        Some(Lot {
+            key: row.key,
+            units: row.units,
+            serial: row.serial,
+        })
     }
 
     // The plain row of a lot.
     pub fn row(&self) -> LotRow
         ensures { λ r. ⌜ r ≡ row-of (now (self .entry)) ⌝ }
     {
-        LotRow { key: self.key, units: self.units, serial: self.serial }
+        LotRow {
+            key: self.key,
+            units: self.units,
+            serial: self.serial,
+        }
     }
 
     // The lot less so many units; none where that would empty it, since an empty lot does not exist.
@@ -34,7 +40,11 @@ impl Lot {
         if self.units <= by {
             return None;
         }
-        Some(Lot { key: self.key, units: self.units - by, serial: self.serial })
+        Some(Lot {
+            key: self.key,
+            units: self.units - by,
+            serial: self.serial,
+        })
     }
 
     // The lot with so many units more; none where that would pass the most units of a lot.
@@ -44,6 +54,10 @@ impl Lot {
         if by > MOST - self.units {
             return None;
         }
-        Some(Lot { key: self.key, units: self.units + by, serial: self.serial })
+        Some(Lot {
+            key: self.key,
+            units: self.units + by,
+            serial: self.serial,
+        })
     }
 }

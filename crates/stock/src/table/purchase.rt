@@ -9,7 +9,6 @@ ghost use Rattle.stock.specs.Places.{Open-at, grown-at, opened};
 ghost use Rattle.stock.specs.Tables.{last-serial, purchased, purchased-late};
 ghost use Rattle.stock.specs.Promises.{Brings-units, Kept-if-refused};
 ghost use Rattle.stock.specs.View.{table-of};
-
 use super::LotTable;
 use bounded::list::calls::Full;
 use lots::lot::Lot;
@@ -67,7 +66,10 @@ impl LotTable {
         if serial == u32::MAX {
             return Err(Refusal::TooManyLots);
         }
-        match self.rows.push(LotRow { serial, ..bought.row() }) {
+        match self.rows.push(LotRow {
+            serial,
+            ..bought.row()
+        }) {
             Ok(()) => {
                 self.next = serial + 1;
                 Ok(serial)

@@ -7,7 +7,6 @@ ghost use Rattle.lots.specs.Rows.{row-of, no-lot};
 ghost use Rattle.stock.specs.Tables.{no-lots, lot-of-serial};
 ghost use Rattle.stock.specs.Kept.{Well-kept};
 ghost use Rattle.stock.specs.View.{table-of};
-
 use super::LotTable;
 use bounded::list::Bounded;
 use lots::lot::Lot;
@@ -17,7 +16,15 @@ use lots::rows::LotRow;
 
 // What the unused places of a table hold.
 pub(crate) const NO_LOT: LotRow = LotRow {
-    key: Key { account: 0, commodity: 0, cost: Cost { number: 0, commodity: 0 }, date: 0 },
+    key: Key {
+        account: 0,
+        commodity: 0,
+        cost: Cost {
+            number: 0,
+            commodity: 0,
+        },
+        date: 0,
+    },
     units: 0,
     serial: 0,
 };
@@ -38,14 +45,20 @@ impl LotTable {
     pub fn new() -> LotTable
         ensures { λ r. ⌜ table-of r ≡ no-lots ⌝ }
     {
-        LotTable { rows: Bounded::new(NO_LOT), next: 1 }
+        LotTable {
+            rows: Bounded::new(NO_LOT),
+            next: 1,
+        }
     }
 
     // A second table with the same lots.
     pub fn duplicate(&self) -> LotTable
         ensures { λ r. ⌜ table-of r ≡ table-of (now (self .entry)) ⌝ }
     {
-        LotTable { rows: self.rows.duplicate(), next: self.next }
+        LotTable {
+            rows: self.rows.duplicate(),
+            next: self.next,
+        }
     }
 
     // The open lots in the order of their serials.
@@ -76,7 +89,9 @@ impl LotTable {
         ensures { λ r. ⌜ row-of r ≡ getD (items (now (self .entry) .rows)) place no-lot ⌝ }
     {
         let row = self.lots()[place];
-        let Some(lot) = Lot::new(row) else { unreachable() };
+        let Some(lot) = Lot::new(row) else {
+            unreachable()
+        };
         lot
     }
 }

@@ -32,7 +32,7 @@ loop-left-less g c =
     let kept = c .lots .ensures .kept in
     let first = subst (λ (rs : List LotRow). Earliest-at M (o .before u) rs (length rs) (c .in-Some .place)) (c .lots .ensures .listed) (c .in-Some .ensures tt) in
     let some = taken-some o (g .P·Policy·met .keeps (c .args .policy .now)) M u (items (c .args .self .now .rows)) now (items (l .draws)) (l .left) (l .self .next) (c .in-Some .place) kept (l .inv .0) (c .loop-left-test .taken) first
-      (c .take-from-draw .result) (table-of (c .take-from-draw .last .self)) (c .take-from-draw .ensures) in
+    (c .take-from-draw .result) (table-of (c .take-from-draw .last .self)) (c .take-from-draw .ensures) in
     omega arith
 
 pub loop-left-again : need.loop-left-again
@@ -48,9 +48,10 @@ loop-left-again g c =
     let kept = c .lots .ensures .kept in
     let first = subst (λ (rs : List LotRow). Earliest-at M (o .before u) rs (length rs) (c .in-Some .place)) (c .lots .ensures .listed) (c .in-Some .ensures tt) in
     let step = taken o (g .P·Policy·met .keeps (c .args .policy .now)) M u old now (items (l .draws)) (l .left) (l .self .next) (c .in-Some .place) kept (l .inv .0) (c .loop-left-test .taken) first d after (c .take-from-draw .ensures) in
-    let pushed = pushed-ok 256 (items (l .draws)) (items (c .push .last .self)) d (c .in-Ok .field-0) (c .in-Ok .ensures tt) in
-    (subst (λ (ds : List Draw). Under-way M (o .before u) u old (after .lots) ds (l .left - d .units)) (sym (pushed .0)) step,
-      taken-next (c .in-Some .place) (l .left) (table-of (l .self)) d after (c .take-from-draw .ensures) ∙ l .inv .1)
+    let pushed = pushed-ok 256 (items (l .draws)) (items (c .push .last .self)) d (c .in-Ok .field-0) (c .in-Ok .ensures tt) in (
+      subst (λ (ds : List Draw). Under-way M (o .before u) u old (after .lots) ds (l .left - d .units)) (sym (pushed .0)) step,
+      taken-next (c .in-Some .place) (l .left) (table-of (l .self)) d after (c .take-from-draw .ensures) ∙ l .inv .1,
+    )
 
 pub returns : need.returns
 returns g c =

@@ -21,6 +21,8 @@ ghost-self c =
     let pushed = pushed-ok 256 xs (items (c .push .last .self)) x (c .in-Ok .field-0) (c .in-Ok .ensures tt) in
     let same : record { key = c .args .bought .now .key; units = c .args .bought .now .units; serial = t .next } ≡ x = λ i. record { key = sym (c .row .ensures) i .key; units = sym (c .row .ensures) i .units; serial = t .next } in
     let good = subst (λ (r : LotRow). in-range r ≡ true) same (lot-in-range (c .args .bought .now)) in
-    let others = subst (λ (k : Key). All (λ r. r .key ≡ k → ⊥) xs) (sym (ap (λ (r : LotRow). r .key) (c .row .ensures))) (keys-others (c .args .bought .now .key) xs (c .pre)) in
-    (ap (λ (rs : List LotRow). well-kept rs (t .next + 1)) (pushed .0)
-      ∙ as-test (xs ++ x ∷ []) (t .next + 1) (kept-pushed xs x (pushed .1) good others (in-words xs (t .next) (items-within (t .rows)) (t .kept))), tt)
+    let others = subst (λ (k : Key). All (λ r. r .key ≡ k → ⊥) xs) (sym (ap (λ (r : LotRow). r .key) (c .row .ensures))) (keys-others (c .args .bought .now .key) xs (c .pre)) in (
+      ap (λ (rs : List LotRow). well-kept rs (t .next + 1)) (pushed .0)
+          ∙ as-test (xs ++ x ∷ []) (t .next + 1) (kept-pushed xs x (pushed .1) good others (in-words xs (t .next) (items-within (t .rows)) (t .kept))),
+      tt,
+    )
