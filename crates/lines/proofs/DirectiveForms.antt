@@ -30,8 +30,8 @@ use Rattle.lines.specs.Cuts.{field-start, field-at, field-end}
 use Rattle.lines.specs.Directives.{by-word, dated-from, dated-line, directive-line, option-from, commodity-from, open-from, close-from, balance-from, transaction-from}
 use Rattle.lines.specs.Grammar.{Next, Front, Fields, Quoted, Dated, Commodity-form, Open-form, Close-form, Form, flag-sign}
 use Rattle.lines.specs.Said.{Said, booking-method, commodity, opening, closing, balance, transaction, posting, Posting-said}
-use Rattle.lines.specs.declared.directive.Flag.{Flag}
-use Rattle.lines.specs.declared.directive.Flag.the-variants.{Complete, Incomplete}
+use Rattle.values.specs.declared.flag.Flag.{Flag}
+use Rattle.values.specs.declared.flag.Flag.the-variants.{Complete, Incomplete}
 use Rattle.lines.specs.declared.fault.DirectiveFault.{DirectiveFault}
 use Rattle.lines.specs.declared.fault.DirectiveFault.the-variants as fault
 use Rattle.lines.proofs.Fronts.{start-is, next-only}

@@ -33,7 +33,7 @@ use Rattle.lines.specs.Directives.{Quoted-said, quoted-from, transaction-from,
 use Rattle.lines.specs.Grammar.{Spaces, Quoted, method-name}
 use Rattle.lines.specs.Postings.{ends-at}
 use Rattle.lines.specs.Said.{Said, booking-method, transaction}
-use Rattle.lines.specs.declared.directive.Flag.{Flag}
+use Rattle.values.specs.declared.flag.Flag.{Flag}
 use Rattle.lines.specs.declared.directive.Method.{Method}
 use Rattle.lines.specs.declared.directive.Method.the-variants.{Strict, Fifo, Lifo}
 use Rattle.lines.specs.declared.fault.DirectiveFault.{DirectiveFault}

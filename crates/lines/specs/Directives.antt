@@ -21,8 +21,8 @@ use Rattle.lines.specs.Postings.{ends-at}
 use Rattle.lines.specs.Said.{Said, booking-method, commodity, opening, closing, balance, transaction}
 use Rattle.lines.specs.declared.directive.Method.{Method}
 use Rattle.lines.specs.declared.directive.Method.the-variants.{Strict, Fifo, Lifo}
-use Rattle.lines.specs.declared.directive.Flag.{Flag}
-use Rattle.lines.specs.declared.directive.Flag.the-variants.{Complete, Incomplete}
+use Rattle.values.specs.declared.flag.Flag.{Flag}
+use Rattle.values.specs.declared.flag.Flag.the-variants.{Complete, Incomplete}
 use Rattle.lines.specs.declared.fault.DirectiveFault.{DirectiveFault}
 use Rattle.lines.specs.declared.fault.DirectiveFault.the-variants as fault
 

@@ -16,8 +16,8 @@ use Rattle.fields.specs.Spots.{Spot}
 use Rattle.lines.specs.Said.{Said, booking-method, commodity, opening, closing, balance, transaction, posting, Cost-said, Braces-said, empty, cost, date, cost-and-date, Units-said, Posting-said}
 use Rattle.lines.specs.declared.directive.Method.{Method}
 use Rattle.lines.specs.declared.directive.Method.the-variants.{Strict, Fifo, Lifo}
-use Rattle.lines.specs.declared.directive.Flag.{Flag}
-use Rattle.lines.specs.declared.directive.Flag.the-variants.{Complete, Incomplete}
+use Rattle.values.specs.declared.flag.Flag.{Flag}
+use Rattle.values.specs.declared.flag.Flag.the-variants.{Complete, Incomplete}
 
 abbrev pub Spaces : List ℕ → Type 0
 Spaces t = All (λ b. b ≡ 32) t

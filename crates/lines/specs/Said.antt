@@ -5,7 +5,7 @@ use Rattle.std.specs.Options.{mapped}
 use Rattle.std.specs.declared.option.Option.{Option}
 use Rattle.fields.specs.Spots.{Spot, seen}
 use Rattle.lines.specs.declared.directive.Method.{Method}
-use Rattle.lines.specs.declared.directive.Flag.{Flag}
+use Rattle.values.specs.declared.flag.Flag.{Flag}
 use Rattle.lines.specs.declared.directive.Cost.{Cost}
 use Rattle.lines.specs.declared.directive.Braces.{Braces}
 use Rattle.lines.specs.declared.directive.Braces.the-variants as braces

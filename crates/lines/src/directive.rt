@@ -1,6 +1,7 @@
 // What a line says. Names, numbers and the parts of braces are parts of the journal, each with its place;
 // dates and amounts stand as their plain numbers.
 use fields::field::Field;
+use values::flag::Flag;
 
 // The booking method that the option line names.
 #[derive(Clone, Copy)]
@@ -8,13 +9,6 @@ pub enum Method {
     Strict,
     Fifo,
     Lifo,
-}
-
-// A transaction's flag: `*` for a complete one, `!` for one to be looked at again.
-#[derive(Clone, Copy)]
-pub enum Flag {
-    Complete,
-    Incomplete,
 }
 
 // The unit cost in a posting's braces.

@@ -12,7 +12,6 @@ ghost use Rattle.lines.specs.Directives.{commodity-from, own-from, open-from, 
 use crate::cut::next_field;
 use crate::cut::rest_from;
 use crate::directive::Directive;
-use crate::directive::Flag;
 use crate::directive::Method;
 use crate::fault::DirectiveFault;
 use crate::fault::DirectiveFromDate;
@@ -30,6 +29,7 @@ use fields::name::read_account_name;
 use fields::name::read_commodity_name;
 use fields::number::read_number;
 use fields::quoted::read_quoted;
+use values::flag::Flag;
 
 fn read_commodity<'a>(
     line: &'a [u8],

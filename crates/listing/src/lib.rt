@@ -3,12 +3,12 @@ use fields::field::Field;
 use lines::directive::Braces;
 use lines::directive::Cost;
 use lines::directive::Directive;
-use lines::directive::Flag;
 use lines::directive::Method;
 use lines::directive::Posting;
 use lines::directive::Units;
 use refusal::Fault;
 use std::fmt;
+use values::flag::Flag;
 
 // An amount in hundredths, with two decimals.
 #[derive(Clone, Copy)]

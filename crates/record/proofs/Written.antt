@@ -7,7 +7,7 @@ use lib.IntN.{pos}
 use lib.ListN.{length, getD, take, drop}
 use borrow.Rule.Slice.PartMut.{putMid}
 use Rattle.std.proofs.shelf.Lists.{take-more, append-assoc, append-nil, length-append, length-take-le, take-at, drop-at, drop-drop, take-rest, drop-all, length-drop, getD-at}
-use Rattle.record.specs.declared.flag.Flag.the-variants.{Complete}
+use Rattle.values.specs.declared.flag.Flag.the-variants.{Complete}
 use Rattle.record.specs.declared.rows.RowKind.the-variants.{Plain}
 use Rattle.record.specs.declared.rows.Row.{Row}
 use Rattle.record.specs.Layout.{row-length, row-bytes, rows-bytes, write-at}

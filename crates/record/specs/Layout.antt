@@ -12,8 +12,7 @@ use Rattle.std.specs.declared.result.Result.{Result}
 use Rattle.std.specs.declared.result.Result.the-variants.{Ok, Err}
 use Rattle.refusal.specs.declared.Refusal.{Refusal}
 use Rattle.refusal.specs.declared.Refusal.the-variants.{RecordTooShort, TooManyRows}
-use Rattle.record.specs.declared.flag.Flag.{Flag}
-use Rattle.record.specs.declared.flag.Flag.the-variants.{Complete, Incomplete}
+use Rattle.values.specs.Flags.{flag-number}
 use Rattle.record.specs.declared.header.Header.{Header}
 use Rattle.record.specs.declared.rows.LotFields.{LotFields}
 use Rattle.record.specs.declared.rows.RowKind.{RowKind}
@@ -52,10 +51,6 @@ kind-number Plain = 1
 kind-number (Purchase _) = 2
 kind-number (Draw _) = 3
 kind-number FilledBlank = 4
-
-abbrev pub flag-number : Flag → ℕ
-flag-number Complete = 0
-flag-number Incomplete = 1
 
 -- a row without a lot has zeros for it
 abbrev pub no-lot : LotFields

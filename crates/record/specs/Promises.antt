@@ -13,7 +13,8 @@ use Rattle.refusal.specs.Table.{number-of}
 use Rattle.refusal.specs.declared.Refusal.{Refusal}
 use Rattle.record.specs.declared.header.Header.{Header}
 use Rattle.record.specs.declared.rows.Row.{Row}
-use Rattle.record.specs.Layout.{header-length, row-length, most-rows, first-free, kind-number, flag-number, lot-of, header-bytes, rows-bytes}
+use Rattle.values.specs.Flags.{flag-number}
+use Rattle.record.specs.Layout.{header-length, row-length, most-rows, first-free, kind-number, lot-of, header-bytes, rows-bytes}
 
 -- the number that bytes stand for, the lowest first
 abbrev pub from-le : List ℕ → ℕ

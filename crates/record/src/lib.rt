@@ -7,7 +7,6 @@ ghost use Rattle.record.specs.Layout.{room-for, header-after, record-after, if
 ghost use Rattle.record.specs.Promises.{Appended, Headed, Room, When-ok};
 
 mod fields;
-pub mod flag;
 pub mod header;
 pub mod rows;
 mod writer;

@@ -1,7 +1,7 @@
 // The rows of the record as values.
 ghost use mathlib.Core.Path.{_≡_};
 ghost use Rattle.record.specs.Layout.{kind-number, lot-of};
-use crate::flag::Flag;
+use values::flag::Flag;
 
 // The lot of a purchase or a draw, as its row states it.
 #[derive(Clone, Copy)]

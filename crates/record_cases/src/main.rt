@@ -2,7 +2,6 @@
 use record::HEADER_LEN;
 use record::ROW_LEN;
 use record::append_rows;
-use record::flag::Flag;
 use record::header::Header;
 use record::room_for;
 use record::rows::LotFields;
@@ -11,6 +10,7 @@ use record::rows::RowKind;
 use record::write_header;
 use refusal::Refusal;
 use std::io;
+use values::flag::Flag;
 
 // Room for the header, three rows and eight bytes more.
 const BOOK_LEN: usize = 140;

@@ -1,4 +1,5 @@
 pub mod Amounts
 pub mod Calendar
+pub mod Flags
 pub mod Names
 pub mod Spelling

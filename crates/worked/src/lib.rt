@@ -8,5 +8,5 @@ pub fn worked_cases() -> u32
     ensures worked { λ _. ⌜ Worked ⌝ }
     ensures count { λ r. ⌜ r ≡ length cases ⌝ }
 {
-    5
+    17
 }
