@@ -13,6 +13,7 @@ use super::LotTable;
 use bounded::list::calls::Full;
 use lots::lot::Lot;
 use lots::rows::Key;
+use lots::rows::KeyPartialEq;
 use lots::rows::LotRow;
 use refusal::Refusal;
 
@@ -21,7 +22,7 @@ fn place_of(rows: &[LotRow], key: &Key) -> Option<usize>
     ensures { λ r. ⌜ Open-at (now (key .entry)) (now (rows .entry)) r ⌝ }
 {
     for (place, row) in rows.iter().enumerate() {
-        if row.key.same(key) {
+        if row.key == *key {
             return Some(place);
         }
     }
