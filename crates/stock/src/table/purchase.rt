@@ -58,7 +58,7 @@ impl LotTable {
         Ok(row.serial)
     }
 
-    // A new lot.
+    // A new lot. The highest number is no lot's serial, since the next serial has to fit too.
     fn start(&mut self, bought: &Lot) -> Result<u32, Refusal>
         requires { ⌜ Open-at (row-of (now bought) .key) (items (now self .rows)) None ⌝ }
         ensures { λ r. ⌜ (r, table-of (now (self .exit))) ≡ opened (row-of (now (bought .entry)) .key) (row-of (now (bought .entry)) .units) (table-of (now (self .entry))) ⌝ }
