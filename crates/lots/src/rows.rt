@@ -26,21 +26,22 @@ pub struct LotRow {
     pub serial: u32,
 }
 
-impl Cost {
-    pub fn same(&self, other: &Cost) -> bool
-        ensures { λ r. ⌜ r ≡ same-cost (now (self .entry)) (now (other .entry)) ⌝ }
-    {
+// Costs and keys are compared as wholes.
+pub impl PartialEq<Cost> for Cost as CostPartialEq {
+    ghost equals = { λ a b r. r ≡ same-cost a b };
+
+    fn eq(&self, other: &Cost) -> bool {
         self.number == other.number && self.commodity == other.commodity
     }
 }
 
-impl Key {
-    pub fn same(&self, other: &Key) -> bool
-        ensures { λ r. ⌜ r ≡ same-key (now (self .entry)) (now (other .entry)) ⌝ }
-    {
+pub impl PartialEq<Key> for Key as KeyPartialEq {
+    ghost equals = { λ a b r. r ≡ same-key a b };
+
+    fn eq(&self, other: &Key) -> bool {
         self.account == other.account
             && self.commodity == other.commodity
-            && self.cost.same(&other.cost)
+            && self.cost == other.cost
             && self.date == other.date
     }
 }

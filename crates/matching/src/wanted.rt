@@ -2,6 +2,7 @@
 ghost use mathlib.Core.Path.{_≡_};
 ghost use Rattle.matching.specs.Matching.{cost-agrees, date-agrees, matches};
 use lots::rows::Cost;
+use lots::rows::CostPartialEq;
 use lots::rows::LotRow;
 
 // Account and commodity, and what the braces give: a cost with its commodity, a lot date, both or nothing.
@@ -25,7 +26,7 @@ fn cost_agrees(given: &Option<Cost>, row: &LotRow) -> bool
 {
     match given {
         None => true,
-        Some(cost) => row.key.cost.same(cost),
+        Some(cost) => row.key.cost == *cost,
     }
 }
 

@@ -13,6 +13,7 @@ use super::LotTable;
 use bounded::list::calls::Full;
 use lots::lot::Lot;
 use lots::rows::Key;
+use lots::rows::KeyPartialEq;
 use lots::rows::LotRow;
 use refusal::Refusal;
 
@@ -21,7 +22,7 @@ fn place_of(rows: &[LotRow], key: &Key) -> Option<usize>
     ensures { λ r. ⌜ Open-at (now (key .entry)) (now (rows .entry)) r ⌝ }
 {
     for (place, row) in rows.iter().enumerate() {
-        if row.key.same(key) {
+        if row.key == *key {
             return Some(place);
         }
     }
@@ -57,7 +58,7 @@ impl LotTable {
         Ok(row.serial)
     }
 
-    // A new lot.
+    // A new lot. The highest number is no lot's serial, since the next serial has to fit too.
     fn start(&mut self, bought: &Lot) -> Result<u32, Refusal>
         requires { ⌜ Open-at (row-of (now bought) .key) (items (now self .rows)) None ⌝ }
         ensures { λ r. ⌜ (r, table-of (now (self .exit))) ≡ opened (row-of (now (bought .entry)) .key) (row-of (now (bought .entry)) .units) (table-of (now (self .entry))) ⌝ }
