@@ -28,7 +28,7 @@ use Rattle.fields.specs.Results.{and-then}
 use Rattle.fields.specs.Spots.{Spot}
 use Rattle.lines.specs.Cuts.{field-start, field-at, field-end}
 use Rattle.lines.specs.Directives.{by-word, dated-from, dated-line, directive-line, option-from, commodity-from, open-from, close-from, balance-from, transaction-from}
-use Rattle.lines.specs.Grammar.{Next, Front, Fields, Quoted, Dated, Commodity-form, Open-form, Close-form, Form, flag-sign}
+use Rattle.lines.specs.Grammar.{Next, Front, Fields, Quoted, Dated, Commodity-form, Open-form, Close-form, Option-form, Form, flag-sign}
 use Rattle.lines.specs.Said.{Said, booking-method, commodity, opening, closing, balance, transaction, posting, Posting-said}
 use Rattle.values.specs.declared.flag.Flag.{Flag}
 use Rattle.values.specs.declared.flag.Flag.the-variants.{Complete, Incomplete}
@@ -181,25 +181,25 @@ module _ (line : List ℕ) where
       let w : field-at line 0 .text ≡ codes "option" = sameBytes-decides _ _ .0 (p .1) in
       subst (Form number line) (sym (o .7)) (
         eqb-true _ _ (p .0),
-        (
-          field-at line 0,
-          o .0,
-          o .3,
-          drop (field-end line 0) line,
-          field-end line 0 + 1,
-          o .1,
-          o .2,
-          o .5,
-          o .6,
-          found line (λ (t : List ℕ). t ≡ codes "option") (λ (z : [] ≡ codes "option"). some-word (codes "option") (omega arith) (sym z)) 0 w,
-          first-place line unspaced,
-          w,
-          o .8,
-          o .9,
-          o .10,
-          o .11,
-          o .12,
-        ),
+        record {
+          keyword = field-at line 0;
+          name = o .0;
+          value = o .3;
+          after-keyword = drop (field-end line 0) line;
+          at-name = field-end line 0 + 1;
+          after-name = o .1;
+          at-value = o .2;
+          tail = o .5;
+          at-tail = o .6;
+          opens = found line (λ (t : List ℕ). t ≡ codes "option") (λ (z : [] ≡ codes "option"). some-word (codes "option") (omega arith) (sym z)) 0 w;
+          first = first-place line unspaced;
+          says = w;
+          named = o .8;
+          which = o .9;
+          given = o .10;
+          method = o .11;
+          ends = o .12;
+        },
       ))
       (λ _ z. err-ok z))
     where
@@ -223,15 +223,15 @@ module _ (line : List ℕ) where
   unfolding directive-line
   directive-complete number (booking-method m) h n =
       let g = h .1 in
-      let f = next-only line 0 (g .0) (g .3) (g .4) (g .9) in
-      let none : g .9 .gap ≡ [] = nil-from-length (g .9 .gap) (omega (arith, g .9 .place, g .10)) in
-      let whole : line ≡ codes "option" ++ g .3 =
-      g .9 .spelled ∙ ap (λ (x : List ℕ). x ++ (g .0 .text ++ g .3)) none ∙ ap (λ (x : List ℕ). x ++ g .3) (g .11) in
+      let f = next-only line 0 (g .keyword) (g .after-keyword) (g .at-name) (g .opens) in
+      let none : g .opens .gap ≡ [] = nil-from-length (g .opens .gap) (omega (arith, g .opens .place, g .first)) in
+      let whole : line ≡ codes "option" ++ g .after-keyword =
+      g .opens .spelled ∙ ap (λ (x : List ℕ). x ++ (g .keyword .text ++ g .after-keyword)) none ∙ ap (λ (x : List ℕ). x ++ g .after-keyword) (g .says) in
       let digit : asciiDigit (getD line 0 0) ≡ false = ap (λ (x : List ℕ). asciiDigit (getD x 0 0)) whole in
-      let word : sameBytes (field-at line 0 .text) (codes "option") ≡ true = sameBytes-decides _ _ .1 (ap (λ (x : Spot). x .text) (f .0) ∙ g .11) in
+      let word : sameBytes (field-at line 0 .text) (codes "option") ≡ true = sameBytes-decides _ _ .1 (ap (λ (x : Spot). x .text) (f .0) ∙ g .says) in
       let first : eqb number 1 ≡ true = eq-eqb number 1 (h .0) in
-      let name = subst (λ (r : ℕ). Quoted r (drop (field-end line 0) line) (g .1) (g .5) (g .6)) (sym (f .2)) (subst (λ (x : List ℕ). Quoted (g .4) x (g .1) (g .5) (g .6)) (sym (f .1)) (g .12)) in
-      let read = option-complete line (field-end line 0) (g .1) (g .5) (g .6) (g .2) m (g .7) (g .8) name (g .13) (g .14) (g .15) (g .16) in
+      let name = subst (λ (r : ℕ). Quoted r (drop (field-end line 0) line) (g .name) (g .after-name) (g .at-value)) (sym (f .2)) (subst (λ (x : List ℕ). Quoted (g .at-name) x (g .name) (g .after-name) (g .at-value)) (sym (f .1)) (g .named)) in
+      let read = option-complete line (field-end line 0) (g .name) (g .after-name) (g .at-value) (g .value) m (g .tail) (g .at-tail) name (g .which) (g .given) (g .method) (g .ends) in
       rw (digit, first, word, read)
   directive-complete number (commodity d name) h n =
       let o = dated-only d (codes "commodity") (h .0) (h .1) (h .2) in
@@ -273,9 +273,9 @@ module _ (line : List ℕ) where
   pub form-first : (number : ℕ) (s : Said) → Form number line s → ((p : Posting-said) → s ≡ posting p → ⊥) → Starts (λ x. x ≡ 32 → ⊥) line
   form-first number (booking-method m) h n =
       let g = h .1 in
-      let none : g .9 .gap ≡ [] = nil-from-length (g .9 .gap) (omega (arith, g .9 .place, g .10)) in
-      let whole : line ≡ codes "option" ++ g .3 =
-      g .9 .spelled ∙ ap (λ (x : List ℕ). x ++ (g .0 .text ++ g .3)) none ∙ ap (λ (x : List ℕ). x ++ g .3) (g .11) in
+      let none : g .opens .gap ≡ [] = nil-from-length (g .opens .gap) (omega (arith, g .opens .place, g .first)) in
+      let whole : line ≡ codes "option" ++ g .after-keyword =
+      g .opens .spelled ∙ ap (λ (x : List ℕ). x ++ (g .keyword .text ++ g .after-keyword)) none ∙ ap (λ (x : List ℕ). x ++ g .after-keyword) (g .says) in
       starts-unspaced 111 (ap (λ (x : List ℕ). getD x 0 0) whole) (λ z. omega arith) (λ z. omega arith)
   form-first number (commodity d name) h n = digit-first (dated-only d (codes "commodity") (h .0) (h .1) (h .2) .0)
   form-first number (opening d account own) h n = digit-first (dated-only d (codes "open") (h .0) (h .1) (h .2) .0)

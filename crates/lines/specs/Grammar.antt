@@ -124,9 +124,29 @@ method-name Strict = codes "STRICT"
 method-name Fifo = codes "FIFO"
 method-name Lifo = codes "LIFO"
 
+-- the option line: its first byte starts the word, and two quoted texts follow
+pub record Option-form (line : List ℕ) (m : Method) : Type 0 where
+  pub keyword : Spot
+  pub name : Spot
+  pub value : Spot
+  pub after-keyword : List ℕ
+  pub at-name : ℕ
+  pub after-name : List ℕ
+  pub at-value : ℕ
+  pub tail : List ℕ
+  pub at-tail : ℕ
+  pub opens : Next 1 line keyword after-keyword at-name
+  pub first : keyword .place ≡ 1
+  pub says : keyword .text ≡ codes "option"
+  pub named : Quoted at-name after-keyword name after-name at-value
+  pub which : name .text ≡ codes "booking_method"
+  pub given : Quoted at-value after-name value tail at-tail
+  pub method : value .text ≡ method-name m
+  pub ends : Spaces tail
+
 -- the forms of a line, by what it says
 abbrev pub Form : ℕ → List ℕ → Said → Type 0
-Form number line (booking-method m) = (number ≡ 1) × ((keyword : Spot) × (name : Spot) × (value : Spot) × (r₁ : List ℕ) × (q₁ : ℕ) × (r₂ : List ℕ) × (q₂ : ℕ) × (r₃ : List ℕ) × (q₃ : ℕ) × Next 1 line keyword r₁ q₁ × (keyword .place ≡ 1) × (keyword .text ≡ codes "option") × Quoted q₁ r₁ name r₂ q₂ × (name .text ≡ codes "booking_method") × Quoted q₂ r₂ value r₃ q₃ × (value .text ≡ method-name m) × Spaces r₃)
+Form number line (booking-method m) = (number ≡ 1) × Option-form line m
 Form number line (commodity d name) = (rest : List ℕ) × (q : ℕ) × Dated line d (codes "commodity") rest q × Commodity-form q rest name
 Form number line (opening d account own) = (rest : List ℕ) × (q : ℕ) × Dated line d (codes "open") rest q × Open-form q rest account own
 Form number line (closing d account) = (rest : List ℕ) × (q : ℕ) × Dated line d (codes "close") rest q × Close-form q rest account
