@@ -157,7 +157,7 @@ fn run(rt: &LibcRuntime) -> Result<(), AnyError> {
     list_account(&account, &mut out)?;
     writeln!(
         out,
-        "text only: every line was read, and nothing was booked"
+        "text only: nothing was booked"
     )?;
     rt.print(out.as_str())?;
     Ok(())
