@@ -1,0 +1,2 @@
+// A list of at most N elements, kept in place: no call allocates.
+pub mod list;

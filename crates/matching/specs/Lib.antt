@@ -1,0 +1,5 @@
+pub mod Sums
+pub mod Matching
+pub mod Places
+pub mod Drawing
+pub mod Drawn

@@ -1,0 +1,4 @@
+pub mod Keeping
+pub mod Purchases
+pub mod Draws
+pub mod Reducing

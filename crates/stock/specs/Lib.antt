@@ -1,0 +1,5 @@
+pub mod Kept
+pub mod Tables
+pub mod Places
+pub mod Promises
+pub mod View

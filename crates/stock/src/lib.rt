@@ -1,0 +1,2 @@
+// The open lots: purchases, reductions and questions.
+pub mod table;
