@@ -1,1 +1,4 @@
 pub mod Worked
+pub mod Passing
+pub mod Loops
+pub mod Blanks

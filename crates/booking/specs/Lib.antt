@@ -3,3 +3,6 @@ pub mod Booking
 pub mod Weighing
 pub mod Balances
 pub mod Rows
+pub mod Ranges
+pub mod Places
+pub mod View
