@@ -5,4 +5,5 @@ pub mod Balances
 pub mod Rows
 pub mod Ranges
 pub mod Places
+pub mod Stages
 pub mod View
