@@ -4,3 +4,4 @@ pub mod Loops
 pub mod Blanks
 pub mod Room
 pub mod Stages
+pub mod Drafts

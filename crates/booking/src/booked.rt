@@ -98,7 +98,7 @@ impl Booked {
     }
 
     // A refusal bears the posting's line.
-    fn book_posting<P: Policy>(&mut self, policy: &P, day: u32, posting: &Posting) -> Result<(), Fault>
+    pub(crate) fn book_posting<P: Policy>(&mut self, policy: &P, day: u32, posting: &Posting) -> Result<(), Fault>
         requires ranged { ⌜ posting-in-range (now posting) ≡ true ⌝ }
         requires room { ⌜ length (booked-of (now self) .1) + length (booked-of (now self) .0 .lots) ≤ 286 ⌝ }
         requires serials { ⌜ booked-of (now self) .0 .next + 1 ≤ last-serial ⌝ }
