@@ -15,7 +15,7 @@ use Rattle.booking.specs.declared.posting.PostingKind.the-variants.{Blank, Pla
 use Rattle.booking.specs.declared.entry.Entry.{Entry}
 use Rattle.booking.specs.declared.entry.EntryKind.the-variants.{Bought, Filled}
 use Rattle.booking.specs.Booking.{entries-of, first-fault, table-after}
-use Rattle.booking.specs.Weighing.{weight-sum, complete}
+use Rattle.booking.specs.Weighing.{weight-sum, unbalanced-in, complete}
 use Rattle.booking.specs.Balances.{first-met, weighing-tests, no-balances}
 
 -- commodity 1 is EUR, commodity 2 the part; account 1 is the shelf, account 2 the bank
@@ -41,17 +41,22 @@ books : first-fault fifo 20240103 no-lots (bought 333 ∷ paid ∷ []) ≡ None
 books = refl
 
 against-an-amount : met (bought 333 ∷ paid ∷ []) ≡ Some NotBalanced
+unfolding unbalanced-in
 against-an-amount = refl
 
 against-a-blank : met (bought 333 ∷ blank ∷ []) ≡ Some BlankCannotBeFilled
+unfolding unbalanced-in
 against-a-blank = refl
 
 -- at 3.32 it weighs 8.3000, and the blank becomes -8.30
 at-another-cost : met (bought 332 ∷ blank ∷ []) ≡ None
+unfolding unbalanced-in
 at-another-cost = refl
 
 filled : complete (entries (bought 332 ∷ blank ∷ [])) ≡ record { line = 7; kind = Bought (record { account = 1; commodity = 2; cost = record { number = 332; commodity = 1 }; date = 20240103 }) 250 1 } ∷ record { line = 8; kind = Filled 2 (negℤ (pos 830)) 1 } ∷ []
+unfolding unbalanced-in
 filled = refl
 
 no-posting : met [] ≡ Some NotBalanced
+unfolding unbalanced-in
 no-posting = refl

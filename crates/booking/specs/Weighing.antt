@@ -35,8 +35,8 @@ abbrev pub unbalanced : ℕ → (ℕ → ℤ) → List ℕ
 unbalanced zero sum = []
 unbalanced (suc n) sum = cond (is-zero (sum (suc n))) (unbalanced n sum) (suc n ∷ unbalanced n sum)
 
--- there are at most 16 commodities
-abbrev pub unbalanced-in : List Entry → List ℕ
+-- There are at most 16 commodities. It stays shut until it is unfolded, since written out it doubles with each commodity.
+unfoldable pub unbalanced-in : List Entry → List ℕ
 unbalanced-in es = unbalanced 16 (weight-sum es)
 
 abbrev pub is-empty : {X : Type 0} → List X → Bool
