@@ -1,0 +1,2 @@
+// Plain balances by account and commodity.
+pub mod table;
