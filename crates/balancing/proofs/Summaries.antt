@@ -4,22 +4,32 @@ use mathlib.Core.List.{List, [], _∷_}
 use mathlib.Core.Bool.{Bool, true, false, cond, not, _&&_, _||_}
 use Prim.Native.Nat.{ℕ, suc, _+_}
 use native.Mathlib.Omega.{arith}
+use lib.Dec.{eqb}
 use lib.IntN.{ℤ}
+use lib.ListN.{length}
 use Rattle.std.specs.declared.option.Option.{Option}
 use Rattle.std.specs.declared.option.Option.the-variants.{Some, None}
+use Rattle.std.proofs.shelf.Tests.{ne-eqb}
+use Rattle.std.specs.Results.{Cases}
 use Rattle.std.specs.declared.result.Result.{Result}
 use Rattle.std.specs.declared.result.Result.the-variants.{Ok, Err}
 use Rattle.refusal.specs.declared.Refusal.{Refusal}
 use Rattle.refusal.specs.declared.Refusal.the-variants.{NotBalanced, BlankCannotBeFilled}
 use Rattle.matching.proofs.Sums.{by-bool}
+use Rattle.record.specs.Layout.{if-ok}
+use Rattle.stock.specs.Promises.{map-ok}
 use Rattle.booking.specs.declared.posting.Posting.{Posting}
 use Rattle.booking.specs.declared.entry.Entry.{Entry}
-use Rattle.booking.specs.Weighing.{is-zero, is-empty, is-whole, is-amount, own-agrees, blank-amount, fill, has-blank, can-fill, unbalanced, unbalanced-in, weight-sum, filled-by}
+use Rattle.booking.specs.Weighing.{is-zero, is-empty, is-whole, is-amount, own-agrees, blank-amount, fill, has-blank, can-fill, unbalanced, unbalanced-in, weight-sum, filled-by, complete, not-balanced, blank-cannot-be-filled}
 use Rattle.booking.specs.Balances.{first-met}
 use Rattle.booking.specs.Stages.{unless}
 use Rattle.balancing.specs.declared.unbalanced.Unbalanced.{Unbalanced}
 use Rattle.balancing.specs.declared.unbalanced.Unbalanced.the-variants.{Nothing, Only, Several}
-use Rattle.balancing.specs.Summary.{summary, one-more, and-commodity, amount-for, filled-if, with-blank, without-blank, balanced}
+use Rattle.balancing.specs.Summary.{summary, one-more, and-commodity, amount-for, filled-if, with-blank, without-blank, balanced, entries-after}
+
+pub empty-is : {X : Type 0} (xs : List X) → eqb (length xs) 0 ≡ is-empty xs
+empty-is [] = refl
+empty-is (x ∷ xs) = ne-eqb (length (x ∷ xs)) 0 (λ e. omega arith)
 
 one-more-is : (sum : ℕ → ℤ) (c : ℕ) (us : List ℕ) → one-more c (sum c) (summary sum us) ≡ summary sum (c ∷ us)
 one-more-is sum c [] = refl
@@ -75,3 +85,16 @@ module _ (ps : List Posting) (own : Option ℕ) (es : List Entry) where
 
     pub blank-missing : has-blank es ≡ false → without-blank es u ≡ balanced ps own es
     blank-missing f = ap (without-blank es) is ∙ without-blank-is own es (unbalanced-in es) ∙ sym (by-parts false false some f)
+
+accepted-is : (refusal : Option Refusal) (fs gs : List Entry) → Ok fs ≡ unless refusal gs → fs ≡ gs
+accepted-is None fs gs e = cc
+accepted-is (Some r) fs gs e = let z : _≡_ {A = ℕ} 0 1 = cc in absurd (omega arith)
+
+-- what an answer and the entries after it say together
+module _ (ps : List Posting) (own : Option ℕ) (es fs : List Entry) where
+  abbrev tests : Option Refusal
+  tests = first-met ((NotBalanced, not-balanced ps es) ∷ (BlankCannotBeFilled, blank-cannot-be-filled own es) ∷ [])
+
+  pub entries-are : (r : Result (Unit {0}) Refusal) → map-ok (λ (_ : Unit {0}). fs) r ≡ balanced ps own es → Cases r (λ _. Unit {0}) (λ _. fs ≡ es) → fs ≡ entries-after ps own es
+  entries-are (Ok u) e kept = accepted-is tests fs (complete es) e ∙ ap (λ (q : Result (List Entry) Refusal). if-ok q (complete es) es) e
+  entries-are (Err r) e kept = kept ∙ ap (λ (q : Result (List Entry) Refusal). if-ok q (complete es) es) e

@@ -9,6 +9,7 @@ use Rattle.std.specs.declared.result.Result.{Result}
 use Rattle.std.specs.declared.result.Result.the-variants.{Ok, Err}
 use Rattle.refusal.specs.declared.Refusal.{Refusal}
 use Rattle.refusal.specs.declared.Refusal.the-variants.{NotBalanced, BlankCannotBeFilled}
+use Rattle.record.specs.Layout.{if-ok}
 use Rattle.booking.specs.declared.posting.Posting.{Posting}
 use Rattle.booking.specs.declared.entry.Entry.{Entry}
 use Rattle.booking.specs.Weighing.{is-zero, is-empty, is-whole, is-amount, own-agrees, blank-amount, fill, has-blank, unbalanced-in, weight-sum, complete, not-balanced, blank-cannot-be-filled}
@@ -56,3 +57,7 @@ without-blank es Several = Err NotBalanced
 -- the first of 25 and 26 that a draft meets, or its entries with the blank filled
 abbrev pub balanced : List Posting → Option ℕ → List Entry → Result (List Entry) Refusal
 balanced ps own es = unless (first-met ((NotBalanced, not-balanced ps es) ∷ (BlankCannotBeFilled, blank-cannot-be-filled own es) ∷ [])) (complete es)
+
+-- the entries after it: refused, they stay as they are
+abbrev pub entries-after : List Posting → Option ℕ → List Entry → List Entry
+entries-after ps own es = if-ok (balanced ps own es) (complete es) es

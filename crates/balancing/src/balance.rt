@@ -1,10 +1,11 @@
 // Whether a draft balances: 25, the blank, and 26.
 ghost use mathlib.Core.Path.{_≡_};
 ghost use lib.ListN.{length};
+ghost use Rattle.std.specs.Results.{Cases};
 ghost use Rattle.stock.specs.Promises.{map-ok};
 ghost use Rattle.booking.specs.Weighing.{own-agrees, has-blank};
 ghost use Rattle.booking.specs.View.{entries-in};
-ghost use Rattle.balancing.specs.Summary.{amount-for, with-blank, without-blank, balanced};
+ghost use Rattle.balancing.specs.Summary.{amount-for, with-blank, without-blank, balanced, entries-after};
 
 use crate::unbalanced::Unbalanced;
 use crate::unbalanced::unbalanced_in;
@@ -51,7 +52,8 @@ fn has_blank(entries: &[Entry]) -> bool
 
 // The blank takes what the one commodity that is out of balance lacks.
 fn fill(entries: &mut Entries, own: Option<u8>, unbalanced: Unbalanced) -> Result<(), Refusal>
-    ensures { λ r. ⌜ map-ok (λ _. entries-in (now (entries .exit))) r ≡ with-blank own (entries-in (now (entries .entry))) unbalanced ⌝ }
+    ensures defined { λ r. ⌜ map-ok (λ _. entries-in (now (entries .exit))) r ≡ with-blank own (entries-in (now (entries .entry))) unbalanced ⌝ }
+    ensures refused { λ r. ⌜ Cases r (λ _. Unit {0}) (λ _. entries-in (now (entries .exit)) ≡ entries-in (now (entries .entry))) ⌝ }
 {
     let Unbalanced::Only { commodity, sum } = unbalanced else {
         return Err(Refusal::BlankCannotBeFilled);
@@ -68,7 +70,8 @@ fn fill(entries: &mut Entries, own: Option<u8>, unbalanced: Unbalanced) -> Resul
 // Fills the blank of a booked draft, or finds that it has none and balances; refused, the entries stay as they are.
 // `own` is the own commodity of the blank's account.
 pub fn balance(postings: &[Posting], entries: &mut Entries, own: Option<u8>) -> Result<(), Refusal>
-    ensures { λ r. ⌜ map-ok (λ _. entries-in (now (entries .exit))) r ≡ balanced (now (postings .entry)) own (entries-in (now (entries .entry))) ⌝ }
+    ensures defined { λ r. ⌜ map-ok (λ _. entries-in (now (entries .exit))) r ≡ balanced (now (postings .entry)) own (entries-in (now (entries .entry))) ⌝ }
+    ensures entries { λ _. ⌜ entries-in (now (entries .exit)) ≡ entries-after (now (postings .entry)) own (entries-in (now (entries .entry))) ⌝ }
 {
     if postings.is_empty() {
         return Err(Refusal::NotBalanced);
