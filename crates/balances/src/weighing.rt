@@ -4,7 +4,6 @@ ghost use Rattle.stock.specs.Promises.{map-ok};
 ghost use Rattle.booking.specs.View.{entries-in};
 ghost use Rattle.balancing.specs.Summary.{entries-after};
 ghost use Rattle.balances.specs.Stages.{balances-in, weighed};
-
 use crate::table::Balances;
 use balancing::balance::balance;
 use booking::entries::Entries;
@@ -13,7 +12,12 @@ use refusal::Refusal;
 
 // Fills the blank among the entries and answers the balances after them, or the first refusal that is met.
 // `own` is the own commodity of the blank's account. Refused 25 or 26, the entries stay as they are; refused 27, their blank is filled.
-pub fn weigh(postings: &[Posting], entries: &mut Entries, own: Option<u8>, balances: &Balances) -> Result<Balances, Refusal>
+pub fn weigh(
+    postings: &[Posting],
+    entries: &mut Entries,
+    own: Option<u8>,
+    balances: &Balances,
+) -> Result<Balances, Refusal>
     ensures defined { λ r. ⌜ map-ok (λ b. (entries-in (now (entries .exit)), balances-in b)) r ≡ weighed (now (postings .entry)) own (balances-in (now (balances .entry))) (entries-in (now (entries .entry))) ⌝ }
     ensures entries { λ _. ⌜ entries-in (now (entries .exit)) ≡ entries-after (now (postings .entry)) own (entries-in (now (entries .entry))) ⌝ }
 {

@@ -52,14 +52,14 @@ tested none blank own sum es us =
     unless (first-met ((NotBalanced, none || (not blank && not (is-empty us))) ∷ (BlankCannotBeFilled, blank && not (can-fill own sum us)) ∷ [])) (filled-by us es)
 
 filled-is : (own : Option ℕ) (es : List Entry) (c : ℕ) →
-  filled-if own es c (amount-for (weight-sum es c)) ≡ tested false true own (weight-sum es) es (c ∷ [])
+    filled-if own es c (amount-for (weight-sum es c)) ≡ tested false true own (weight-sum es) es (c ∷ [])
 filled-is own es c =
     by-bool (is-whole (weight-sum es c))
     (λ (w : Bool). filled-if own es c (cond (w && is-amount (blank-amount (weight-sum es c))) (Some (blank-amount (weight-sum es c))) None) ≡ unless (cond (not (w && (is-amount (blank-amount (weight-sum es c)) && own-agrees own c))) (Some BlankCannotBeFilled) None) (fill (blank-amount (weight-sum es c)) c es))
     (λ _. by-bool (is-amount (blank-amount (weight-sum es c)))
-      (λ (a : Bool). filled-if own es c (cond a (Some (blank-amount (weight-sum es c))) None) ≡ unless (cond (not (a && own-agrees own c)) (Some BlankCannotBeFilled) None) (fill (blank-amount (weight-sum es c)) c es))
-      (λ _. by-bool (own-agrees own c) (λ (b : Bool). cond b (Ok (fill (blank-amount (weight-sum es c)) c es)) (Err BlankCannotBeFilled) ≡ unless (cond (not b) (Some BlankCannotBeFilled) None) (fill (blank-amount (weight-sum es c)) c es)) (λ _. refl) (λ _. refl))
-      (λ _. refl))
+    (λ (a : Bool). filled-if own es c (cond a (Some (blank-amount (weight-sum es c))) None) ≡ unless (cond (not (a && own-agrees own c)) (Some BlankCannotBeFilled) None) (fill (blank-amount (weight-sum es c)) c es))
+    (λ _. by-bool (own-agrees own c) (λ (b : Bool). cond b (Ok (fill (blank-amount (weight-sum es c)) c es)) (Err BlankCannotBeFilled) ≡ unless (cond (not b) (Some BlankCannotBeFilled) None) (fill (blank-amount (weight-sum es c)) c es)) (λ _. refl) (λ _. refl))
+    (λ _. refl))
     (λ _. refl)
 
 with-blank-is : (own : Option ℕ) (es : List Entry) (us : List ℕ) → with-blank own es (summary (weight-sum es) us) ≡ tested false true own (weight-sum es) es us

@@ -6,7 +6,6 @@ ghost use Rattle.stock.specs.Promises.{map-ok};
 ghost use Rattle.booking.specs.Weighing.{own-agrees, has-blank};
 ghost use Rattle.booking.specs.View.{entries-in};
 ghost use Rattle.balancing.specs.Summary.{amount-for, with-blank, without-blank, balanced, entries-after};
-
 use crate::unbalanced::Unbalanced;
 use crate::unbalanced::unbalanced_in;
 use booking::entries::Entries;

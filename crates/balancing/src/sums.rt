@@ -5,7 +5,6 @@ ghost use lib.ListN.{length};
 ghost use Rattle.booking.specs.Weighing.{kind-weight, weight-sum};
 ghost use Rattle.weights.specs.Weights.{weight-in};
 ghost use Rattle.balancing.specs.Bounds.{Within};
-
 use booking::entry::Entry;
 use booking::entry::EntryKind;
 use weights::Weight;
@@ -17,7 +16,11 @@ use weights::weight_of_key;
 fn weight_in(weight: &Weight, commodity: u8) -> i128
     ensures { λ r. ⌜ r ≡ weight-in commodity (now (weight .entry)) ⌝ }
 {
-    if weight.commodity == commodity { weight.amount } else { 0 }
+    if weight.commodity == commodity {
+        weight.amount
+    } else {
+        0
+    }
 }
 
 // What an entry weighs in a commodity; a blank nothing, until it is filled.
@@ -26,16 +29,22 @@ fn kind_weight(kind: &EntryKind, commodity: u8) -> i128
     ensures small { λ r. ⌜ Within 1 r ⌝ }
 {
     match *kind {
-        EntryKind::PlainAmount { account: _, amount, commodity: own } => {
-            weight_in(&plain_weight(amount, own), commodity)
-        }
+        EntryKind::PlainAmount {
+            account: _,
+            amount,
+            commodity: own,
+        } => { weight_in(&plain_weight(amount, own), commodity) }
         EntryKind::Unfilled { account: _ } => 0,
-        EntryKind::Filled { account: _, amount, commodity: own } => {
-            weight_in(&plain_weight(amount, own), commodity)
-        }
-        EntryKind::Bought { key, units, serial: _ } => {
-            weight_in(&weight_of_key(&key, units), commodity)
-        }
+        EntryKind::Filled {
+            account: _,
+            amount,
+            commodity: own,
+        } => { weight_in(&plain_weight(amount, own), commodity) }
+        EntryKind::Bought {
+            key,
+            units,
+            serial: _,
+        } => { weight_in(&weight_of_key(&key, units), commodity) }
         EntryKind::Drew(draw) => weight_in(&draw_weight(&draw), commodity),
     }
 }

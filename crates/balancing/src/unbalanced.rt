@@ -4,7 +4,6 @@ ghost use Prim.Native.Nat.{_≤_};
 ghost use lib.ListN.{length};
 ghost use Rattle.booking.specs.Weighing.{unbalanced-in, weight-sum};
 ghost use Rattle.balancing.specs.Summary.{summary, and-commodity};
-
 use crate::sums::weight_sum;
 use booking::entry::Entry;
 

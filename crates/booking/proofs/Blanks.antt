@@ -29,9 +29,9 @@ fill-at z c (e ∷ es) d h =
     (λ (b : Bool). cond (not b) (1 + blank-place es) 0 < length (e ∷ es) → cond b (filled-entry z c e ∷ es) (e ∷ fill z c es) ≡ set (e ∷ es) (cond (not b) (1 + blank-place es) 0) (filled-entry z c (getD (e ∷ es) (cond (not b) (1 + blank-place es) 0) d)))
     (λ _ _. refl)
     (λ _ l.
-      let next : 1 + blank-place es ≡ suc (blank-place es) = omega arith in
-      ap (λ (ys : List Entry). e ∷ ys) (fill-at z c es d (omega arith))
-      ∙ ap (λ (n : ℕ). set (e ∷ es) n (filled-entry z c (getD (e ∷ es) n d))) (sym next))
+    let next : 1 + blank-place es ≡ suc (blank-place es) = omega arith in
+    ap (λ (ys : List Entry). e ∷ ys) (fill-at z c es d (omega arith))
+    ∙ ap (λ (n : ℕ). set (e ∷ es) n (filled-entry z c (getD (e ∷ es) n d))) (sym next))
     h
 
 pub fill-none : (z : ℤ) (c : ℕ) (es : List Entry) → length es ≤ blank-place es → fill z c es ≡ es

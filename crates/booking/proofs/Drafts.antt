@@ -33,7 +33,7 @@ module _ (o : Order) (day : ℕ) (b : Table × List Entry) where
     given = entries-of-posting o day (b .0) p
 
     after-accepted : (q : Option Refusal) (c : Table × List Entry) → Ok c ≡ unless (at-line (p .line) q) (t′, b .1 ++ given)
-      → book-postings o day c ps ≡ unless (or-else (at-line (p .line) q) (first-fault o day t′ ps)) (table-after o day t′ ps, b .1 ++ (given ++ entries-of o day t′ ps))
+        → book-postings o day c ps ≡ unless (or-else (at-line (p .line) q) (first-fault o day t′ ps)) (table-after o day t′ ps, b .1 ++ (given ++ entries-of o day t′ ps))
     after-accepted None c e =
         let same : c ≡ (t′, b .1 ++ given) = cc in
         ap (λ (c : Table × List Entry). book-postings o day c ps) same
@@ -41,7 +41,7 @@ module _ (o : Order) (day : ℕ) (b : Table × List Entry) where
     after-accepted (Some r) c e = let z : _≡_ {A = ℕ} 0 1 = cc in absurd (omega arith)
 
     after-refused : (q : Option Refusal) (f : Fault) → _≡_ {A = Result (Table × List Entry) Fault} (Err f) (unless (at-line (p .line) q) (t′, b .1 ++ given))
-      → _≡_ {A = Result (Table × List Entry) Fault} (Err f) (unless (or-else (at-line (p .line) q) (first-fault o day t′ ps)) (table-after o day t′ ps, b .1 ++ (given ++ entries-of o day t′ ps)))
+        → _≡_ {A = Result (Table × List Entry) Fault} (Err f) (unless (or-else (at-line (p .line) q) (first-fault o day t′ ps)) (table-after o day t′ ps, b .1 ++ (given ++ entries-of o day t′ ps)))
     after-refused None f e = let z : _≡_ {A = ℕ} 0 1 = cc in absurd (omega arith)
     after-refused (Some r) f e = e
 

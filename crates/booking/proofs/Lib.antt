@@ -5,3 +5,4 @@ pub mod Blanks
 pub mod Room
 pub mod Stages
 pub mod Drafts
+pub mod Filling

@@ -71,9 +71,9 @@ module _ (lt : LotRow → LotRow → Bool) (f : LotRow → ℕ) where
       ⊎-elim
       (λ (z : in-part r ≡ 0). let ih = at-most-one rs (p .1) in omega arith)
       (λ (ne : in-part r ≡ 0 → ⊥).
-        let rest = sum-of-zero-all in-part rs (all-weaker (Not-both r) (λ s. in-part s ≡ 0) (λ s. ⊎-elim (λ (e : in-part r ≡ 0). absurd (ne e)) (λ (e : in-part s ≡ 0). e)) rs (p .0)) in
-        let top = in-part-most r in
-        omega arith)
+      let rest = sum-of-zero-all in-part rs (all-weaker (Not-both r) (λ s. in-part s ≡ 0) (λ s. ⊎-elim (λ (e : in-part r ≡ 0). absurd (ne e)) (λ (e : in-part s ≡ 0). e)) rs (p .0)) in
+      let top = in-part-most r in
+      omega arith)
       (cases-eq (in-part r) 0)
 
 module _ (o : Order) (keeps : Keeps o) (w : Wanted) (u : ℕ) (t : Table) (kept : Well-kept t) where
@@ -93,13 +93,13 @@ module _ (o : Order) (keeps : Keeps o) (w : Wanted) (u : ℕ) (t : Table) (kept 
   draws-ranged =
       pass-from-all draw-in-range (λ d. d .units ≤ most) (λ d l. le-leb (d .units) most l) (draws-of o w u xs)
       (all-draws (λ d. d .units ≤ most) lt f xs
-        (all-weaker (λ r. in-range r ≡ true) (λ r. (f r ≡ 0 → ⊥) → f r ≤ most)
-          (λ r e _.
-            let p = and-parts (leb 1 (r .units)) (leb (r .units) most && leb (r .key .cost .number) most) e in
-            let top = leb-true (r .units) most (and-parts (leb (r .units) most) (leb (r .key .cost .number) most) (p .1) .0) in
-            let l = gives-most M lt u xs r in
-            omega arith)
-          xs (kept .ranges)))
+      (all-weaker (λ r. in-range r ≡ true) (λ r. (f r ≡ 0 → ⊥) → f r ≤ most)
+      (λ r e _.
+      let p = and-parts (leb 1 (r .units)) (leb (r .units) most && leb (r .key .cost .number) most) e in
+      let top = leb-true (r .units) most (and-parts (leb (r .units) most) (leb (r .key .cost .number) most) (p .1) .0) in
+      let l = gives-most M lt u xs r in
+      omega arith)
+      xs (kept .ranges)))
 
   module _ (enough : u ≤ units-matching M xs) where
     one-before : (a b : LotRow) → Member xs a → lt a b ≡ true → Not-both lt f a b
@@ -107,10 +107,10 @@ module _ (o : Order) (keeps : Keeps o) (w : Wanted) (u : ℕ) (t : Table) (kept 
         ⊎-elim
         (λ (z : f b ≡ 0). inr (not-drawn lt f b z))
         (λ (nz : f b ≡ 0 → ⊥).
-          ⊎-elim
-          (λ (fits : M a ≡ true). inl (all-drawn lt f a (emptied M lt (keeps .irreflexive u) (keeps .transitive u) (keeps .exactly-one u) u xs (kept .serials-rise) (some-units xs (kept .ranges)) enough b a nz there fits before)))
-          (λ (other : M a ≡ false). inl (not-drawn lt f a (cond-false (M a) (min (a .units) (u - units-before M lt xs a)) 0 other)))
-          (cases-bool (M a)))
+        ⊎-elim
+        (λ (fits : M a ≡ true). inl (all-drawn lt f a (emptied M lt (keeps .irreflexive u) (keeps .transitive u) (keeps .exactly-one u) u xs (kept .serials-rise) (some-units xs (kept .ranges)) enough b a nz there fits before)))
+        (λ (other : M a ≡ false). inl (not-drawn lt f a (cond-false (M a) (min (a .units) (u - units-before M lt xs a)) 0 other)))
+        (cases-bool (M a)))
         (cases-eq (f b) 0)
 
     not-both : (a b : LotRow) → Member xs a → Member xs b → a .serial < b .serial → Not-both lt f a b

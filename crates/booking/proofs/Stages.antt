@@ -100,8 +100,8 @@ covered : (o : Order) (w : Wanted) (u : ℕ) (t : Table) → reduction-refusal o
 covered o w u t e =
     ⊎-elim
     (λ (l : ltb (units-matching (matches w) (t .lots)) u ≡ true).
-      let f = sym (cond-true (ltb (units-matching (matches w) (t .lots)) u) (Some TooFewUnits) (cond (settled o (matches w) u (t .lots)) None (Some NotSettledByPolicy)) l) ∙ e in
-      let z : _≡_ {A = ℕ} 0 1 = cc in absurd (omega arith))
+    let f = sym (cond-true (ltb (units-matching (matches w) (t .lots)) u) (Some TooFewUnits) (cond (settled o (matches w) u (t .lots)) None (Some NotSettledByPolicy)) l) ∙ e in
+    let z : _≡_ {A = ℕ} 0 1 = cc in absurd (omega arith))
     (λ (l : ltb (units-matching (matches w) (t .lots)) u ≡ false). ltb-false (units-matching (matches w) (t .lots)) u l)
     (cases-bool (ltb (units-matching (matches w) (t .lots)) u))
 

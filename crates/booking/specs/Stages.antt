@@ -28,12 +28,12 @@ unless (Some refusal) x = Err refusal
 abbrev pub book-purchase : ℕ → Key → ℕ → Table × List Entry → Result (Table × List Entry) Refusal
 book-purchase line k n b =
     unless (purchase-refusal k n (b .0))
-      (table-after-purchase k n (b .0), b .1 ++ (entry line (Bought k n (serial-for k (b .0 .next) (b .0 .lots))) ∷ []))
+    (table-after-purchase k n (b .0), b .1 ++ (entry line (Bought k n (serial-for k (b .0 .next) (b .0 .lots))) ∷ []))
 
 abbrev pub book-reduction : Order → ℕ → Wanted → ℕ → Table × List Entry → Result (Table × List Entry) Refusal
 book-reduction o line w u b =
     unless (reduction-refusal o w u (b .0))
-      (table-after-reduction o w u (b .0), b .1 ++ draw-entries line (draws-of o w u (b .0 .lots)))
+    (table-after-reduction o w u (b .0), b .1 ++ draw-entries line (draws-of o w u (b .0 .lots)))
 
 abbrev pub book-kind : Order → ℕ → ℕ → ℕ → PostingKind → Table × List Entry → Result (Table × List Entry) Refusal
 book-kind o day line a kind b = unless (kind-refusal o day a (b .0) kind) (table-after-kind o day a (b .0) kind, b .1 ++ entries-of-kind o day line a (b .0) kind)

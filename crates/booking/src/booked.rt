@@ -13,7 +13,6 @@ ghost use Rattle.booking.specs.Postings.{lot-date};
 ghost use Rattle.booking.specs.Ranges.{posting-in-range};
 ghost use Rattle.booking.specs.Stages.{book-purchase, book-reduction, book-kind, book-posting, Grows};
 ghost use Rattle.booking.specs.View.{booked-of};
-
 use crate::entries::Entries;
 use crate::entry::Entry;
 use crate::entry::EntryKind;
@@ -52,13 +51,28 @@ impl Booked {
         ensures defined { λ r. ⌜ map-ok (λ _. booked-of (now (self .exit))) r ≡ book-purchase line key units (booked-of (now (self .entry))) ⌝ }
         ensures grows { λ _. ⌜ Grows (booked-of (now (self .entry))) (booked-of (now (self .exit))) ⌝ }
     {
-        let Some(bought) = Lot::new(LotRow { key, units, serial: 0 }) else { unreachable() };
+        let Some(bought) = Lot::new(LotRow {
+            key,
+            units,
+            serial: 0,
+        }) else {
+            unreachable()
+        };
         let serial = self.lots.purchase(&bought)?;
-        self.entries.push(Entry { line, kind: EntryKind::Bought { key, units, serial } });
+        self.entries.push(Entry {
+            line,
+            kind: EntryKind::Bought { key, units, serial },
+        });
         Ok(())
     }
 
-    fn reduce<P: Policy>(&mut self, policy: &P, line: u32, wanted: &Wanted, units: u32) -> Result<(), Refusal>
+    fn reduce<P: Policy>(
+        &mut self,
+        policy: &P,
+        line: u32,
+        wanted: &Wanted,
+        units: u32,
+    ) -> Result<(), Refusal>
         requires room { ⌜ length (booked-of (now self) .1) + length (booked-of (now self) .0 .lots) ≤ 286 ⌝ }
         ensures defined { λ r. ⌜ map-ok (λ _. booked-of (now (self .exit))) r ≡ book-reduction (P·Policy .order (now (policy .entry))) line (now (wanted .entry)) units (booked-of (now (self .entry))) ⌝ }
         ensures grows { λ _. ⌜ Grows (booked-of (now (self .entry))) (booked-of (now (self .exit))) ⌝ }
@@ -69,36 +83,82 @@ impl Booked {
     }
 
     // A posting of each kind.
-    fn book_kind<P: Policy>(&mut self, policy: &P, day: u32, posting: &Posting) -> Result<(), Refusal>
+    fn book_kind<P: Policy>(
+        &mut self,
+        policy: &P,
+        day: u32,
+        posting: &Posting,
+    ) -> Result<(), Refusal>
         requires ranged { ⌜ posting-in-range (now posting) ≡ true ⌝ }
         requires room { ⌜ length (booked-of (now self) .1) + length (booked-of (now self) .0 .lots) ≤ 286 ⌝ }
         requires serials { ⌜ booked-of (now self) .0 .next + 1 ≤ last-serial ⌝ }
         ensures defined { λ r. ⌜ map-ok (λ _. booked-of (now (self .exit))) r ≡ book-kind (P·Policy .order (now (policy .entry))) day (now (posting .entry) .line) (now (posting .entry) .account) (now (posting .entry) .kind) (booked-of (now (self .entry))) ⌝ }
         ensures grows { λ _. ⌜ Grows (booked-of (now (self .entry))) (booked-of (now (self .exit))) ⌝ }
     {
-        let Posting { line, account, kind } = *posting;
+        let Posting {
+            line,
+            account,
+            kind,
+        } = *posting;
         match kind {
             PostingKind::Blank => {
-                self.entries.push(Entry { line, kind: EntryKind::Unfilled { account } });
+                self.entries.push(Entry {
+                    line,
+                    kind: EntryKind::Unfilled { account },
+                });
                 Ok(())
             }
             PostingKind::Plain { amount, commodity } => {
-                let kind = EntryKind::PlainAmount { account, amount, commodity };
+                let kind = EntryKind::PlainAmount {
+                    account,
+                    amount,
+                    commodity,
+                };
                 self.entries.push(Entry { line, kind });
                 Ok(())
             }
-            PostingKind::Purchase { units, commodity, cost, date } => {
-                let key = Key { account, commodity, cost, date: lot_date(day, date) };
+            PostingKind::Purchase {
+                units,
+                commodity,
+                cost,
+                date,
+            } => {
+                let key = Key {
+                    account,
+                    commodity,
+                    cost,
+                    date: lot_date(day, date),
+                };
                 self.purchase(line, key, units)
             }
-            PostingKind::Reduction { units, commodity, cost, date } => {
-                self.reduce(policy, line, &Wanted { account, commodity, cost, date }, units)
+            PostingKind::Reduction {
+                units,
+                commodity,
+                cost,
+                date,
+            } => {
+                self.reduce(
+                    policy,
+                    line,
+                    &Wanted {
+                        account,
+                        commodity,
+                        cost,
+                        date,
+                    },
+                    units,
+                )
             }
         }
     }
 
     // A refusal bears the posting's line.
-    pub(crate) fn book_posting<P: Policy>(&mut self, policy: &P, day: u32, posting: &Posting) -> Result<(), Fault>
+    pub(crate) fn book_posting<P: Policy>(
+        &mut self,
+        policy: &P,
+        day: u32,
+        posting: &Posting,
+    ) -> Result<(), Fault>
         requires ranged { ⌜ posting-in-range (now posting) ≡ true ⌝ }
         requires room { ⌜ length (booked-of (now self) .1) + length (booked-of (now self) .0 .lots) ≤ 286 ⌝ }
         requires serials { ⌜ booked-of (now self) .0 .next + 1 ≤ last-serial ⌝ }
@@ -107,7 +167,11 @@ impl Booked {
     {
         match self.book_kind(policy, day, posting) {
             Ok(()) => Ok(()),
-            Err(refusal) => Err(Fault { refusal, line: posting.line, place: 0 }),
+            Err(refusal) => Err(Fault {
+                refusal,
+                line: posting.line,
+                place: 0,
+            }),
         }
     }
 }

@@ -5,7 +5,6 @@ ghost use mathlib.Core.Bool.{true};
 ghost use Rattle.std.specs.shelf.Lawful.{all-pass};
 ghost use Rattle.bounded.specs.Items.{items};
 ghost use Rattle.booking.specs.Ranges.{entry-in-range};
-
 use crate::entry::Entry;
 use bounded::list::Bounded;
 

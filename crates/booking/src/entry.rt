@@ -4,7 +4,6 @@ ghost use mathlib.Core.Bool.{true};
 ghost use Rattle.booking.specs.Ranges.{entry-in-range};
 ghost use Rattle.booking.specs.Rows.{lot-fields, row-of};
 ghost use Rattle.booking.specs.Weighing.{is-unfilled, filled-with};
-
 use lots::rows::Key;
 use matching::wanted::Draw;
 use record::flag::Flag;
@@ -15,10 +14,24 @@ use record::rows::RowKind;
 // A blank is unfilled until the whole draft is weighed. A purchase bears the serial of the lot that its units came to.
 #[derive(Clone, Copy)]
 pub enum EntryKind {
-    PlainAmount { account: u16, amount: i32, commodity: u8 },
-    Unfilled { account: u16 },
-    Filled { account: u16, amount: i32, commodity: u8 },
-    Bought { key: Key, units: u32, serial: u32 },
+    PlainAmount {
+        account: u16,
+        amount: i32,
+        commodity: u8,
+    },
+    Unfilled {
+        account: u16,
+    },
+    Filled {
+        account: u16,
+        amount: i32,
+        commodity: u8,
+    },
+    Bought {
+        key: Key,
+        units: u32,
+        serial: u32,
+    },
     Drew(Draw),
 }
 
@@ -52,7 +65,11 @@ impl EntryKind {
         ensures { λ r. ⌜ r ≡ filled-with amount commodity self ⌝ }
     {
         match self {
-            EntryKind::Unfilled { account } => EntryKind::Filled { account, amount, commodity },
+            EntryKind::Unfilled { account } => EntryKind::Filled {
+                account,
+                amount,
+                commodity,
+            },
             other => other,
         }
     }
@@ -62,7 +79,12 @@ impl EntryKind {
 fn lot_fields(key: &Key, serial: u32) -> LotFields
     ensures { λ r. ⌜ r ≡ lot-fields (now (key .entry)) serial ⌝ }
 {
-    LotFields { cost: key.cost.number, acquired: key.date, serial, currency: key.cost.commodity }
+    LotFields {
+        cost: key.cost.number,
+        acquired: key.date,
+        serial,
+        currency: key.cost.commodity,
+    }
 }
 
 impl Entry {
@@ -72,20 +94,34 @@ impl Entry {
         ensures { λ r. ⌜ r ≡ row-of (now (transaction .entry)) (now (self .entry)) ⌝ }
     {
         let (account, commodity, kind, units) = match self.kind {
-            EntryKind::PlainAmount { account, amount, commodity } => {
-                (account, commodity, RowKind::Plain, amount)
-            }
+            EntryKind::PlainAmount {
+                account,
+                amount,
+                commodity,
+            } => { (account, commodity, RowKind::Plain, amount) }
             EntryKind::Unfilled { account } => (account, 0, RowKind::FilledBlank, 0),
-            EntryKind::Filled { account, amount, commodity } => {
-                (account, commodity, RowKind::FilledBlank, amount)
-            }
+            EntryKind::Filled {
+                account,
+                amount,
+                commodity,
+            } => { (account, commodity, RowKind::FilledBlank, amount) }
             EntryKind::Bought { key, units, serial } => {
                 let lot = lot_fields(&key, serial);
-                (key.account, key.commodity, RowKind::Purchase(lot), units as i32)
+                (
+                    key.account,
+                    key.commodity,
+                    RowKind::Purchase(lot),
+                    units as i32,
+                )
             }
             EntryKind::Drew(Draw { lot: from, units }) => {
                 let lot = lot_fields(&from.key, from.serial);
-                (from.key.account, from.key.commodity, RowKind::Draw(lot), -(units as i32))
+                (
+                    from.key.account,
+                    from.key.commodity,
+                    RowKind::Draw(lot),
+                    -(units as i32),
+                )
             }
         };
         Row {

@@ -4,7 +4,6 @@ ghost use mathlib.Core.Bool.{true};
 ghost use Rattle.std.specs.shelf.Lawful.{all-pass};
 ghost use Rattle.bounded.specs.Items.{items};
 ghost use Rattle.booking.specs.Ranges.{posting-in-range};
-
 use crate::posting::Posting;
 use bounded::list::Bounded;
 

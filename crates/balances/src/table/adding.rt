@@ -4,7 +4,6 @@ ghost use Prim.Native.Nat.{ℕ, _+_, _*_, _-_, _≤_};
 ghost use lib.ListN.{length};
 ghost use Rattle.booking.specs.Balances.{balance-place, add-amount, add-kind, balances-after, all-within};
 ghost use Rattle.balances.specs.Bounds.{Near};
-
 use super::PLACES;
 use booking::entry::Entry;
 use booking::entry::EntryKind;
@@ -40,10 +39,18 @@ fn add_kind(places: &mut [i64; PLACES], kind: &EntryKind)
     ensures near { λ _. ⌜ ((n : ℕ) → Near (now (places .entry)) n → Near (now (places .exit)) (n + 1)) ⌝ }
 {
     match *kind {
-        EntryKind::PlainAmount { account, amount, commodity } => {
+        EntryKind::PlainAmount {
+            account,
+            amount,
+            commodity,
+        } => {
             add_amount(places, account, commodity, amount);
         }
-        EntryKind::Filled { account, amount, commodity } => {
+        EntryKind::Filled {
+            account,
+            amount,
+            commodity,
+        } => {
             add_amount(places, account, commodity, amount);
         }
         _ => {}

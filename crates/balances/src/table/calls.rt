@@ -4,7 +4,6 @@ ghost use Rattle.stock.specs.Promises.{map-ok};
 ghost use Rattle.booking.specs.View.{entries-in};
 ghost use Rattle.booking.specs.Balances.{no-balances, balance-in};
 ghost use Rattle.balances.specs.Stages.{balances-in, settled-balances};
-
 use super::Balances;
 use super::PLACES;
 use super::adding::add_entries;
@@ -18,7 +17,9 @@ impl Balances {
     pub fn new() -> Balances
         ensures { λ r. ⌜ balances-in r ≡ no-balances ⌝ }
     {
-        Balances { places: [0; PLACES] }
+        Balances {
+            places: [0; PLACES],
+        }
     }
 
     // The plain balance of an account in a commodity; one that has no place has none.

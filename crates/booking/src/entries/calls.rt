@@ -8,7 +8,6 @@ ghost use Rattle.std.specs.shelf.Lawful.{all-pass};
 ghost use Rattle.booking.specs.Ranges.{entry-in-range, draw-in-range};
 ghost use Rattle.booking.specs.Postings.{draw-entries};
 ghost use Rattle.booking.specs.View.{entries-in};
-
 use super::Entries;
 use crate::entry::Entry;
 use crate::entry::EntryKind;
@@ -20,7 +19,12 @@ impl Entries {
     pub fn new() -> Entries
         ensures { λ r. ⌜ entries-in r ≡ [] ⌝ }
     {
-        Entries { list: Bounded::new(Entry { line: 0, kind: EntryKind::Unfilled { account: 0 } }) }
+        Entries {
+            list: Bounded::new(Entry {
+                line: 0,
+                kind: EntryKind::Unfilled { account: 0 },
+            }),
+        }
     }
 
     // The entries in order.
@@ -39,7 +43,9 @@ impl Entries {
         ensures listed { λ _. ⌜ entries-in (now (self .exit)) ≡ entries-in (now (self .entry)) ++ (entry ∷ []) ⌝ }
         ensures size { λ _. ⌜ length (entries-in (now (self .exit))) ≡ length (entries-in (now (self .entry))) + 1 ⌝ }
     {
-        let Ok(()) = self.list.push(entry) else { unreachable() };
+        let Ok(()) = self.list.push(entry) else {
+            unreachable()
+        };
     }
 
     // One entry more for each draw.
@@ -50,7 +56,10 @@ impl Entries {
         ensures size { λ _. ⌜ length (entries-in (now (self .exit))) ≡ length (entries-in (now (self .entry))) + length (now (draws .entry)) ⌝ }
     {
         for draw in draws {
-            self.push(Entry { line, kind: EntryKind::Drew(*draw) });
+            self.push(Entry {
+                line,
+                kind: EntryKind::Drew(*draw),
+            });
         }
     }
 }

@@ -3,7 +3,6 @@ ghost use mathlib.Core.Path.{_≡_};
 ghost use Rattle.booking.specs.Places.{blank-place};
 ghost use Rattle.booking.specs.Weighing.{blank-account, fill};
 ghost use Rattle.booking.specs.View.{entries-in};
-
 use super::Entries;
 use crate::entry::Entry;
 use crate::entry::EntryKind;
@@ -41,7 +40,13 @@ impl Entries {
         let place = place_of_blank(entries);
         if place < entries.len() {
             let Entry { line, kind } = entries[place];
-            self.list.put(place, Entry { line, kind: kind.filled_with(amount, commodity) });
+            self.list.put(
+                place,
+                Entry {
+                    line,
+                    kind: kind.filled_with(amount, commodity),
+                },
+            );
         }
     }
 }

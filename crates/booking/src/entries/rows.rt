@@ -3,7 +3,6 @@ ghost use mathlib.Core.Path.{_≡_};
 ghost use Rattle.bounded.specs.Items.{items};
 ghost use Rattle.booking.specs.Rows.{rows-of};
 ghost use Rattle.booking.specs.View.{entries-in};
-
 use super::Entries;
 use super::MOST_ENTRIES;
 use crate::entry::Transaction;
@@ -30,7 +29,9 @@ impl Entries {
             flag: transaction.flag,
         });
         for entry in self.as_slice() {
-            let Ok(()) = rows.push(entry.row(transaction)) else { unreachable() };
+            let Ok(()) = rows.push(entry.row(transaction)) else {
+                unreachable()
+            };
         }
         rows
     }

@@ -8,7 +8,6 @@ ghost use Rattle.std.specs.shelf.Lawful.{all-pass};
 ghost use Rattle.bounded.specs.Items.{pushed};
 ghost use Rattle.booking.specs.Ranges.{posting-in-range};
 ghost use Rattle.booking.specs.View.{postings-of};
-
 use super::Postings;
 use crate::posting::Posting;
 use crate::posting::PostingKind;
@@ -20,7 +19,13 @@ impl Postings {
     pub fn new() -> Postings
         ensures { λ r. ⌜ postings-of r ≡ [] ⌝ }
     {
-        Postings { list: Bounded::new(Posting { line: 0, account: 0, kind: PostingKind::Blank }) }
+        Postings {
+            list: Bounded::new(Posting {
+                line: 0,
+                account: 0,
+                kind: PostingKind::Blank,
+            }),
+        }
     }
 
     // The postings in the order in which they were added.

@@ -27,7 +27,7 @@ returns-then-at-lt-PLACES c =
     let e : c .from .result ≡ z = search needs in
     record {
       added = rw (e, toZ-ofZ w64 s fs, toZ-ofZ w64 z fz, toZ-ofZ w64 (s +ℤ z) f) (ap (λ (n : ℕ). set bs n (getD bs n (pos 0) +ℤ z)) (c .place-at .ensures));
-      near = λ n h. rw (e, toZ-ofZ w64 s fs, toZ-ofZ w64 z fz, toZ-ofZ w64 (s +ℤ z) f) (near-set bs at n (s +ℤ z) (omega arith) h (let a : Moved n s = h at (c .if-at-lt-PLACES .taken) in omega (arith, ints)))
+      near = λ n h. rw (e, toZ-ofZ w64 s fs, toZ-ofZ w64 z fz, toZ-ofZ w64 (s +ℤ z) f) (near-set bs at n (s +ℤ z) (omega arith) h (let a : Moved n s = h at (c .if-at-lt-PLACES .taken) in omega (arith, ints)));
     }
 
 pub returns-else-at-lt-PLACES : need.returns-else-at-lt-PLACES
@@ -37,5 +37,5 @@ returns-else-at-lt-PLACES c =
     let past : length bs ≤ balance-place (c .args .account) (c .args .commodity) = omega arith in
     record {
       added = sym (set-past bs (balance-place (c .args .account) (c .args .commodity)) _ past);
-      near = λ n h. near-more bs n (n + 1) (omega arith) h
+      near = λ n h. near-more bs n (n + 1) (omega arith) h;
     }

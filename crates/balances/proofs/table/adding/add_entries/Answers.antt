@@ -13,9 +13,10 @@ use Rattle.balances.proofs.table.adding.add_entries.Needs as need
 pub loop-entry-again : need.loop-entry-again
 loop-entry-again c =
     let es = c .args .entries .now in
-    let i = c .loop-entry .entry-index in
-    (ap (λ (bs : List ℤ). balances-after bs (drop (i + 1) es)) (c .add-kind .ensures .added) ∙ sym (at-drop-more (balances-after (c .loop-entry .places)) es i no-entry (c .loop-entry-test .taken)) ∙ c .loop-entry .inv .0,
-      c .add-kind .ensures .near i (c .loop-entry .inv .1))
+    let i = c .loop-entry .entry-index in (
+      ap (λ (bs : List ℤ). balances-after bs (drop (i + 1) es)) (c .add-kind .ensures .added) ∙ sym (at-drop-more (balances-after (c .loop-entry .places)) es i no-entry (c .loop-entry-test .taken)) ∙ c .loop-entry .inv .0,
+      c .add-kind .ensures .near i (c .loop-entry .inv .1),
+    )
 
 pub add-kind-requires : need.add-kind-requires
 add-kind-requires c κs = near-more (c .loop-entry .places) (c .loop-entry .entry-index) 288 (omega arith) (c .loop-entry .inv .1)

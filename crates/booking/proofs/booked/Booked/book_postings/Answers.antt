@@ -21,7 +21,7 @@ book-posting-requires g c κs =
     record {
       ranged = pass-at posting-in-range (c .args .postings .now) (l .posting-index) no-posting within (c .pre .ranged);
       room = omega arith;
-      serials = omega arith
+      serials = omega arith;
     }
 
 pub returns-in-Break-book-posting : need.returns-in-Break-book-posting
@@ -35,7 +35,7 @@ returns-in-Break-book-posting g c =
     let was = l .inv .2 in
     record {
       defined = ap (map-ok _) (p .1) ∙ ap Err (p .2) ∙ booked-refused o (c .args .day) b ps (l .posting-index) (c .loop-posting-test .taken) (book-postings o (c .args .day) (booked-of (c .args .self .now)) ps) (l .inv .0) (c .in-Break-book-posting .field-0 .0) (c .in-Break-book-posting .ensures tt .defined);
-      serials = omega arith
+      serials = omega arith;
     }
 
 pub loop-posting-again : need.loop-posting-again
@@ -46,9 +46,11 @@ loop-posting-again g c =
     let ps = c .args .postings .now in
     let grown = c .in-Continue-book-posting .ensures tt .grows in
     let room = l .inv .1 in
-    let was = l .inv .2 in
-    (booked-more o (c .args .day) b ps (l .posting-index) (c .loop-posting-test .taken) (book-postings o (c .args .day) (booked-of (c .args .self .now)) ps) (l .inv .0) (booked-of (c .book-posting .last .self)) (c .in-Continue-book-posting .ensures tt .defined),
-      omega arith, omega arith)
+    let was = l .inv .2 in (
+      booked-more o (c .args .day) b ps (l .posting-index) (c .loop-posting-test .taken) (book-postings o (c .args .day) (booked-of (c .args .self .now)) ps) (l .inv .0) (booked-of (c .book-posting .last .self)) (c .in-Continue-book-posting .ensures tt .defined),
+      omega arith,
+      omega arith,
+    )
 
 pub returns : need.returns
 returns g c =
@@ -57,5 +59,5 @@ returns g c =
     let ps = c .args .postings .now in
     record {
       defined = booked-all o (c .args .day) (booked-of (l .self)) ps (l .posting-index) (c .loop-posting-test .left) (book-postings o (c .args .day) (booked-of (c .args .self .now)) ps) (l .inv .0);
-      serials = l .inv .2
+      serials = l .inv .2;
     }

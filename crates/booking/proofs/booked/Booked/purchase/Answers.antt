@@ -27,7 +27,7 @@ returns-in-Break-serial c =
     let p = err-from-errBy (c .from-residual .result) (c .from-residual .ensures .1) in
     record {
       defined = ap (map-ok _) (p .1) ∙ ap Err (p .2) ∙ purchase-refused (c .args .line) (c .args .key) (c .args .units) b t′ (c .in-Break-serial .field-0 .0) e;
-      grows = subst (λ (t : Table). Grows b (t, b .1)) (sym (c .in-Break-serial .ensures tt .refusal-changes-nothing)) (grows-kept b)
+      grows = subst (λ (t : Table). Grows b (t, b .1)) (sym (c .in-Break-serial .ensures tt .refusal-changes-nothing)) (grows-kept b);
     }
 
 pub returns : need.returns
@@ -41,5 +41,5 @@ returns c =
     let listed = c .push .ensures .listed in
     record {
       defined = ap (λ (es : List Entry). Ok (t′, es)) listed ∙ purchase-accepted (c .args .line) (c .args .key) (c .args .units) b t′ s e;
-      grows = subst (λ (es : List Entry). Grows b (t′, es)) (sym listed) (purchase-grows (c .args .line) (c .args .key) (c .args .units) b t′ s e)
+      grows = subst (λ (es : List Entry). Grows b (t′, es)) (sym listed) (purchase-grows (c .args .line) (c .args .key) (c .args .units) b t′ s e);
     }

@@ -35,7 +35,7 @@ push-draws-requires g c κs =
     let room = c .pre .room in
     record {
       room = omega arith;
-      ranged = ap (all-pass draw-in-range) same ∙ draws-in-ranges o keeps (c .args .line) (c .args .wanted .now) (c .args .units) b kept t′ ds e
+      ranged = ap (all-pass draw-in-range) same ∙ draws-in-ranges o keeps (c .args .line) (c .args .wanted .now) (c .args .units) b kept t′ ds e;
     }
 
 pub returns : need.returns
@@ -51,5 +51,5 @@ returns g c =
     let listed = c .push-draws .ensures .listed ∙ ap (λ (xs : List Draw). b .1 ++ draw-entries (c .args .line) xs) (c .as-slice .ensures .items) in
     record {
       defined = ap (λ (es : List Entry). Ok (t′, es)) listed ∙ reduction-accepted o keeps (c .args .line) (c .args .wanted .now) (c .args .units) b kept t′ ds e;
-      grows = subst (λ (es : List Entry). Grows b (t′, es)) (sym listed) (reduction-grows o keeps (c .args .line) (c .args .wanted .now) (c .args .units) b kept t′ ds e)
+      grows = subst (λ (es : List Entry). Grows b (t′, es)) (sym listed) (reduction-grows o keeps (c .args .line) (c .args .wanted .now) (c .args .units) b kept t′ ds e);
     }

@@ -12,7 +12,6 @@ use Rattle.booking.proofs.Passing.{pass-at}
 use Rattle.booking.proofs.Loops.{mapped-more, mapped-all}
 use Rattle.booking.proofs.entries.Entries.push_draws.Needs as need
 
-
 pub push-requires : need.push-requires
 push-requires c κs =
     let sized = c .loop-draw .inv .1 in
@@ -22,9 +21,10 @@ push-requires c κs =
 pub loop-draw-again : need.loop-draw-again
 loop-draw-again c =
     let sized = c .loop-draw .inv .1 in
-    let more = c .push .ensures .size in
-    (mapped-more (λ (d : Draw). entry (c .args .line) (Drew d)) (entries-in (c .args .self .now)) (c .args .draws .now) (c .loop-draw .draw-index) (record { lot = no-lot; units = 0 }) (entries-in (c .loop-draw .self)) (entries-in (c .push .last .self)) (c .loop-draw-test .taken) (c .loop-draw .inv .0) (c .push .ensures .listed),
-      omega arith)
+    let more = c .push .ensures .size in (
+      mapped-more (λ (d : Draw). entry (c .args .line) (Drew d)) (entries-in (c .args .self .now)) (c .args .draws .now) (c .loop-draw .draw-index) (record { lot = no-lot; units = 0 }) (entries-in (c .loop-draw .self)) (entries-in (c .push .last .self)) (c .loop-draw-test .taken) (c .loop-draw .inv .0) (c .push .ensures .listed),
+      omega arith,
+    )
 
 pub returns : need.returns
 returns c =
@@ -33,5 +33,5 @@ returns c =
     let top = c .loop-draw .kept .draw-index-end in
     record {
       listed = mapped-all (λ (d : Draw). entry (c .args .line) (Drew d)) (entries-in (c .args .self .now)) (c .args .draws .now) (c .loop-draw .draw-index) (entries-in (c .loop-draw .self)) end (c .loop-draw .inv .0);
-      size = omega arith
+      size = omega arith;
     }
