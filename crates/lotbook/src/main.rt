@@ -155,10 +155,7 @@ fn run(rt: &LibcRuntime) -> Result<(), AnyError> {
     let mut account = Account::new();
     list_journal(&mut account, &mut out, journal.as_slice())?;
     list_account(&account, &mut out)?;
-    writeln!(
-        out,
-        "text only: nothing was booked"
-    )?;
+    writeln!(out, "text only: nothing was booked")?;
     rt.print(out.as_str())?;
     Ok(())
 }

@@ -227,7 +227,7 @@ module _ (M : LotRow → Bool) (lt : LotRow → LotRow → Bool)
         (λ _. ih)
         (λ _. order-insert (record { lot = y; units = g y }) (draws-in-order lt g ys) (all-draws (λ e. y .serial ≡ e .lot .serial → ⊥) lt g ys (all-weaker (λ s. y .serial < s .serial) (λ s. (g s ≡ 0 → ⊥) → y .serial ≡ s .serial → ⊥) (λ s l _ q. omega arith) ys (r .0))) ih)
 
-    emptied : (r a : LotRow) → (gives M lt u xs r ≡ 0 → ⊥) → Member xs a → M a ≡ true → lt a r ≡ true → gives M lt u xs a ≡ a .units
+    pub emptied : (r a : LotRow) → (gives M lt u xs r ≡ 0 → ⊥) → Member xs a → M a ≡ true → lt a r ≡ true → gives M lt u xs a ≡ a .units
     emptied r a ne there fits before =
         let gap = units-before-gap xs a r there fits before in
         let gr = cond-true (M r) (min (r .units) (u - units-before M lt xs r)) 0 (fits-if r ne) in

@@ -1,0 +1,9 @@
+pub mod Postings
+pub mod Booking
+pub mod Weighing
+pub mod Balances
+pub mod Rows
+pub mod Ranges
+pub mod Places
+pub mod Stages
+pub mod View
