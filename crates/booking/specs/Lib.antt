@@ -1,0 +1,5 @@
+pub mod Postings
+pub mod Booking
+pub mod Weighing
+pub mod Balances
+pub mod Rows
