@@ -27,14 +27,49 @@ pub struct GivenAmount<'a> {
 // Each directive call has its source number. A slip goes by its number, the record by how many of its bytes are lent.
 #[derive(Clone, Copy)]
 pub enum Call<'a> {
-    Declare { source: u32, date: u32, name: &'a [u8] },
-    Open { source: u32, date: u32, name: &'a [u8], own: Option<&'a [u8]> },
-    Assert { source: u32, date: u32, account: &'a [u8], number: i32, commodity: &'a [u8] },
-    Close { source: u32, date: u32, account: &'a [u8] },
-    Begin { source: u32, date: u32, flag: Flag },
+    Declare {
+        source: u32,
+        date: u32,
+        name: &'a [u8],
+    },
+    Open {
+        source: u32,
+        date: u32,
+        name: &'a [u8],
+        own: Option<&'a [u8]>,
+    },
+    Assert {
+        source: u32,
+        date: u32,
+        account: &'a [u8],
+        number: i32,
+        commodity: &'a [u8],
+    },
+    Close {
+        source: u32,
+        date: u32,
+        account: &'a [u8],
+    },
+    Begin {
+        source: u32,
+        date: u32,
+        flag: Flag,
+    },
     // Without an amount, a blank.
-    Post { slip: u32, source: u32, account: &'a [u8], amount: Option<GivenAmount<'a>> },
-    Settle { slip: u32, lent: usize },
-    Tear { slip: u32 },
-    WriteHeader { lent: usize },
+    Post {
+        slip: u32,
+        source: u32,
+        account: &'a [u8],
+        amount: Option<GivenAmount<'a>>,
+    },
+    Settle {
+        slip: u32,
+        lent: usize,
+    },
+    Tear {
+        slip: u32,
+    },
+    WriteHeader {
+        lent: usize,
+    },
 }

@@ -2,5 +2,6 @@
 // What the ledger is, and what each call answers and leaves, stands in specs/.
 pub mod account;
 pub mod call;
+pub mod laws;
 pub mod name;
 pub mod outcome;
