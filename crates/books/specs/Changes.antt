@@ -65,24 +65,39 @@ lots-after-draft o t d = table-after o (d .date) t (d .postings)
 abbrev pub settled-entries : Order → Table → Draft → List Entry
 settled-entries o t d = complete (entries-of o (d .date) t (d .postings))
 
+-- Names.
+
+abbrev pub with-commodity : Names → List ℕ → Names
+with-commodity k name = record { commodities = k .commodities ++ (name ∷ []); accounts = k .accounts }
+
+abbrev pub with-account : Names → List ℕ → Option (List ℕ) → Names
+with-account k name own = record {
+  commodities = k .commodities;
+  accounts = k .accounts ++ (record { name = name; own = mapped (λ c. number-or-0 (commodity-number k c)) own; is-open = true } ∷ []);
+}
+
+abbrev pub closed : Account → Account
+closed account = record { name = account .name; own = account .own; is-open = false }
+
+abbrev pub with-account-closed : Names → ℕ → Names
+with-account-closed k a = record { commodities = k .commodities; accounts = set (k .accounts) (a - 1) (closed (account-at k a)) }
+
 -- The ledger.
 
+-- names are changed, and date and rank accepted
 abbrev pub with-names : State → Names → ℕ → ℕ → State
 with-names s k date rank = record { names = k; books = s .books; draft = s .draft; last-date = date; last-rank = rank; transactions = s .transactions; rows = s .rows }
 
 abbrev pub with-draft : State → Option Draft → State
 with-draft s d = record { names = s .names; books = s .books; draft = d; last-date = s .last-date; last-rank = s .last-rank; transactions = s .transactions; rows = s .rows }
 
-abbrev pub closed : Account → Account
-closed account = record { name = account .name; own = account .own; is-open = false }
-
 abbrev pub books-after-draft : Order → Books → Draft → Books
 books-after-draft o b d = record { balances = balances-after (b .balances) (settled-entries o (b .table) d); table = lots-after-draft o (b .table) d }
 
 -- settling counts a transaction and its rows, and moves the last accepted date and rank to the draft's date and 2
-abbrev pub state-after-settling : Order → State → Option Draft → State
-state-after-settling o s None = s
-state-after-settling o s (Some d) = record {
+abbrev pub after-settling : Order → State → Option Draft → State
+after-settling o s None = s
+after-settling o s (Some d) = record {
   names = s .names;
   books = books-after-draft o (s .books) d;
   draft = None;
@@ -94,15 +109,13 @@ state-after-settling o s (Some d) = record {
 
 -- what an accepted call leaves
 abbrev pub change : Order → State → Call → State
-change o s (declaring source date name) = with-names s (record { commodities = s .names .commodities ++ (name ∷ []); accounts = s .names .accounts }) date 0
-change o s (opening source date name own) =
-    with-names s (record { commodities = s .names .commodities; accounts = s .names .accounts ++ (record { name = name; own = mapped (λ c. number-or-0 (commodity-number (s .names) c)) own; is-open = true } ∷ []) }) date 0
+change o s (declaring source date name) = with-names s (with-commodity (s .names) name) date 0
+change o s (opening source date name own) = with-names s (with-account (s .names) name own) date 0
 change o s (asserting source date account number commodity) = with-names s (s .names) date 1
-change o s (closing source date account) =
-    with-names s (record { commodities = s .names .commodities; accounts = set (s .names .accounts) (number-or-0 (open-account (s .names) account) - 1) (closed (account-at (s .names) (number-or-0 (open-account (s .names) account)))) }) date 3
+change o s (closing source date account) = with-names s (with-account-closed (s .names) (number-or-0 (open-account (s .names) account))) date 3
 change o s (beginning source date flag) = with-draft s (Some (new-draft source date flag))
 change o s (posting slip source account amount) = with-draft s (mapped (with-posting (posting-of (s .names) source account amount)) (s .draft))
-change o s (settling slip lent) = state-after-settling o s (s .draft)
+change o s (settling slip lent) = after-settling o s (s .draft)
 change o s (tearing slip) = with-draft s None
 change o s (writing-header lent) = s
 

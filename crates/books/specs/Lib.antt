@@ -6,6 +6,7 @@ pub mod Conditions
 pub mod Refusals
 pub mod Changes
 pub mod Steps
+pub mod Recording
 pub mod Questions
 pub mod Kept
 pub mod Given
