@@ -7,3 +7,5 @@ pub mod Reaching
 pub mod Tests
 pub mod Postings
 pub mod Runs
+pub mod Bytes
+pub mod RunRecords
