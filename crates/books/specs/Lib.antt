@@ -1,0 +1,12 @@
+pub mod States
+pub mod Calls
+pub mod Lookups
+pub mod Holdings
+pub mod Conditions
+pub mod Refusals
+pub mod Changes
+pub mod Steps
+pub mod Recording
+pub mod Questions
+pub mod Kept
+pub mod Given

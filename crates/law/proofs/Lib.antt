@@ -1,0 +1,11 @@
+pub mod Sums
+pub mod Stocks
+pub mod Plains
+pub mod Fills
+pub mod Serials
+pub mod Reaching
+pub mod Tests
+pub mod Postings
+pub mod Runs
+pub mod Bytes
+pub mod RunRecords

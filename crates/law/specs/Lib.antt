@@ -1,0 +1,6 @@
+pub mod Histories
+pub mod Amounts
+pub mod Reductions
+pub mod Laws
+pub mod Records
+pub mod Worked
