@@ -6,10 +6,24 @@ use values::flag::Flag;
 // A blank is unfilled until the whole draft is weighed. A purchase bears the serial of the lot that its units came to.
 #[derive(Clone, Copy)]
 pub enum EntryKind {
-    PlainAmount { account: u16, amount: i32, commodity: u8 },
-    Unfilled { account: u16 },
-    Filled { account: u16, amount: i32, commodity: u8 },
-    Bought { key: Key, units: u32, serial: u32 },
+    PlainAmount {
+        account: u16,
+        amount: i32,
+        commodity: u8,
+    },
+    Unfilled {
+        account: u16,
+    },
+    Filled {
+        account: u16,
+        amount: i32,
+        commodity: u8,
+    },
+    Bought {
+        key: Key,
+        units: u32,
+        serial: u32,
+    },
     Drew(Draw),
 }
 

@@ -6,10 +6,23 @@ use lots::rows::Cost;
 pub enum PostingKind {
     // An amount that is found when the draft is settled.
     Blank,
-    Plain { amount: i32, commodity: u8 },
+    Plain {
+        amount: i32,
+        commodity: u8,
+    },
     // Without a lot date, the transaction's date is taken.
-    Purchase { units: u32, commodity: u8, cost: Cost, date: Option<u32> },
-    Reduction { units: u32, commodity: u8, cost: Option<Cost>, date: Option<u32> },
+    Purchase {
+        units: u32,
+        commodity: u8,
+        cost: Cost,
+        date: Option<u32>,
+    },
+    Reduction {
+        units: u32,
+        commodity: u8,
+        cost: Option<Cost>,
+        date: Option<u32>,
+    },
 }
 
 // A posting with its source number and the number of its account, from 1.
