@@ -118,7 +118,7 @@ module _ (o : Order) (keeps : Keeps o) (day a : ℕ) (t : Table) where
       (λ (b : ltb (units-matching M (t .lots)) u ≡ false). ltb-false (units-matching M (t .lots)) u b) (cases-bool (ltb (units-matching M (t .lots)) u)) in
       closed-form-is-drawn M (o .before u) (keeps .irreflexive u) (keeps .transitive u) (keeps .exactly-one u) u (t .lots) (s .rising) (s .some) covered
 
-first-none : (line : ℕ) (m : Option Refusal) (rest : Option Fault) → or-else (at-line line m) rest ≡ None → (m ≡ None) × (rest ≡ None)
+pub first-none : (line : ℕ) (m : Option Refusal) (rest : Option Fault) → or-else (at-line line m) rest ≡ None → (m ≡ None) × (rest ≡ None)
 first-none line None rest e = (refl, e)
 first-none line (Some r) rest e = absurd (none-some _ (sym e))
 
