@@ -145,7 +145,7 @@ module _ (o : Order) (s : State) where
 pub tables-in-list-order : Tables-in-list-order
 tables-in-list-order o s (declaring source date name) = by-test (tests o s (declaring source date name)) refl
 tables-in-list-order o s (opening source date name own) = opening-in-order o s source date name own
-tables-in-list-order o s (asserting source date account number commodity) = by-test (tests o s (asserting source date account number commodity)) refl
+tables-in-list-order o s (asserting source date account amount commodity) = by-test (tests o s (asserting source date account amount commodity)) refl
 tables-in-list-order o s (closing source date account) = by-test (tests o s (closing source date account)) refl
 tables-in-list-order o s (beginning source date flag) = by-test (tests o s (beginning source date flag)) refl
 tables-in-list-order o s (posting slip source account amount) = posting-in-order o s slip source account amount

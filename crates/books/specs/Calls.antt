@@ -26,7 +26,7 @@ pub record Given-amount : Type 0 where
 pub data Call : Type 0 where
   declaring : (source date : ℕ) (name : List ℕ) → Call
   opening : (source date : ℕ) (name : List ℕ) (own : Option (List ℕ)) → Call
-  asserting : (source date : ℕ) (account : List ℕ) (number : ℤ) (commodity : List ℕ) → Call
+  asserting : (source date : ℕ) (account : List ℕ) (amount : ℤ) (commodity : List ℕ) → Call
   closing : (source date : ℕ) (account : List ℕ) → Call
   beginning : (source date : ℕ) (flag : Flag) → Call
   posting : (slip source : ℕ) (account : List ℕ) (amount : Option Given-amount) → Call

@@ -111,7 +111,7 @@ after-settling o s (Some d) = record {
 abbrev pub change : Order → State → Call → State
 change o s (declaring source date name) = with-names s (with-commodity (s .names) name) date 0
 change o s (opening source date name own) = with-names s (with-account (s .names) name own) date 0
-change o s (asserting source date account number commodity) = with-names s (s .names) date 1
+change o s (asserting source date account amount commodity) = with-names s (s .names) date 1
 change o s (closing source date account) = with-names s (with-account-closed (s .names) (number-or-0 (open-account (s .names) account))) date 3
 change o s (beginning source date flag) = with-draft s (Some (new-draft source date flag))
 change o s (posting slip source account amount) = with-draft s (mapped (with-posting (posting-of (s .names) source account amount)) (s .draft))
@@ -123,7 +123,7 @@ change o s (writing-header lent) = s
 abbrev pub reply : State → Call → Outcome
 reply s (declaring source date name) = Declared (length (s .names .commodities) + 1)
 reply s (opening source date name own) = Opened (length (s .names .accounts) + 1)
-reply s (asserting source date account number commodity) = Done
+reply s (asserting source date account amount commodity) = Done
 reply s (closing source date account) = Done
 reply s (beginning source date flag) = Begun (s .transactions + 1)
 reply s (posting slip source account amount) = Done

@@ -22,7 +22,7 @@ given-amount x = record { number = x .number; commodity = x .commodity .now; bra
 abbrev pub given-call : code.Call → Call
 given-call (Declare source date name) = declaring source date (name .now)
 given-call (Open source date name own) = opening source date (name .now) (mapped (λ c. c .now) own)
-given-call (Assert source date account number commodity) = asserting source date (account .now) number (commodity .now)
+given-call (Assert source date account amount commodity) = asserting source date (account .now) amount (commodity .now)
 given-call (Close source date account) = closing source date (account .now)
 given-call (Begin source date flag) = beginning source date flag
 given-call (Post slip source account amount) = posting slip source (account .now) (mapped given-amount amount)

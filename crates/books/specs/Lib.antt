@@ -8,5 +8,5 @@ pub mod Changes
 pub mod Steps
 pub mod Recording
 pub mod Questions
-pub mod Kept
+pub mod View
 pub mod Given

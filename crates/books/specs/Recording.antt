@@ -36,7 +36,7 @@ record-after-settling o s (Some d) book = record-after (s .rows) (draft-rows o s
 abbrev pub record-change : Order → State → Call → List ℕ → List ℕ
 record-change o s (declaring source date name) book = book
 record-change o s (opening source date name own) book = book
-record-change o s (asserting source date account number commodity) book = book
+record-change o s (asserting source date account amount commodity) book = book
 record-change o s (closing source date account) book = book
 record-change o s (beginning source date flag) book = book
 record-change o s (posting slip source account amount) book = book

@@ -145,12 +145,12 @@ tests o s (opening source date name own) =
     ++ ((AccountOpenedBefore, opened-before (s .names) name)
     ∷ (BooksFull, accounts-full (s .names))
     ∷ [])))
-tests o s (asserting source date account number commodity) =
+tests o s (asserting source date account amount commodity) =
     tests-at source
-    (dated-tests s date 1 ((BadAccountName, bad-account-name account) ∷ (BadNumber, bad-number number) ∷ (BadCommodityName, bad-commodity-name commodity) ∷ [])
+    (dated-tests s date 1 ((BadAccountName, bad-account-name account) ∷ (BadNumber, bad-number amount) ∷ (BadCommodityName, bad-commodity-name commodity) ∷ [])
     ((CommodityNotDeclared, not-declared (s .names) commodity)
     ∷ (AccountNotOpen, none-under (s .names) account)
-    ∷ (BalanceDiffers, balance-differs s account number commodity)
+    ∷ (BalanceDiffers, balance-differs s account amount commodity)
     ∷ []))
 tests o s (closing source date account) =
     tests-at source

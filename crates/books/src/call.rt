@@ -42,7 +42,7 @@ pub enum Call<'a> {
         source: u32,
         date: u32,
         account: &'a [u8],
-        number: i32,
+        amount: i32,
         commodity: &'a [u8],
     },
     Close {

@@ -41,7 +41,7 @@ recorded-behind old start rows new written h size counted =
     let bytes = rows-bytes-length rows in
     let front : length (old ++ rows-bytes rows) ≡ first-free written = length-append old (rows-bytes rows) ∙ omega arith in
     let more : drop (length (rows-bytes new)) behind ≡ drop (first-free (written + length new)) start =
-        drop-drop (length (rows-bytes new)) (first-free written) start ∙ ap (λ n. drop n start) (ap (λ n. first-free written + n) (rows-bytes-length new) ∙ omega arith) in
+    drop-drop (length (rows-bytes new)) (first-free written) start ∙ ap (λ n. drop n start) (ap (λ n. first-free written + n) (rows-bytes-length new) ∙ omega arith) in
     ap (λ xs. header-after (written + length new) h (write-at xs (first-free written) (rows-bytes new))) (sym (append-assoc old (rows-bytes rows) behind))
     ∙ ap (header-after (written + length new) h) (write-behind (old ++ rows-bytes rows) behind (rows-bytes new) (first-free written) front ∙ append-assoc old (rows-bytes rows) (rows-bytes new ++ drop (length (rows-bytes new)) behind))
     ∙ headed-over old (rows-bytes rows ++ (rows-bytes new ++ drop (length (rows-bytes new)) behind)) (written + length new) h size

@@ -6,6 +6,7 @@ pub mod Serials
 pub mod Reaching
 pub mod Tests
 pub mod Postings
+pub mod Limits
 pub mod Runs
 pub mod Bytes
 pub mod RunRecords

@@ -4,7 +4,8 @@ use mathlib.Core.List.{List, [], _∷_, _++_}
 use mathlib.Core.Bool.{Bool, true, false, not, _&&_}
 use Prim.Native.Nat.{ℕ, zero, suc, _+_, _≤_, _<_}
 use native.Mathlib.Omega.{arith}
-use lib.IntN.{ℤ, pos, negsuc}
+use lib.Dec.{leb}
+use lib.IntN.{ℤ, pos, negsuc, natAbs}
 use lib.ListN.{length}
 use Rattle.std.specs.Options.{isSome, mapped}
 use Rattle.std.specs.declared.option.Option.{Option}
@@ -12,9 +13,10 @@ use Rattle.std.specs.declared.option.Option.the-variants.{Some, None}
 use Rattle.std.specs.shelf.Lists.{All}
 use Rattle.std.specs.shelf.Text.{sameBytes}
 use Rattle.std.proofs.shelf.Elements.{all-append, all-push, all-weaker, all-map}
-use Rattle.std.proofs.shelf.Tests.{both-ways}
+use Rattle.std.proofs.shelf.Tests.{both-ways, leb-true, not-false}
 use Rattle.refusal.specs.declared.Refusal.the-variants.{BracesWithoutUse}
 use Rattle.lots.specs.declared.rows.Cost.{Cost}
+use Rattle.lots.specs.Rows.{most}
 use Rattle.lots.specs.Orders.{Order}
 use Rattle.matching.specs.declared.wanted.Draw.{Draw}
 use Rattle.matching.specs.Drawing.{draws-of}
@@ -28,22 +30,28 @@ use Rattle.booking.specs.Booking.{entries-of}
 use Rattle.books.specs.States.{Account, Names, Draft, State}
 use Rattle.books.specs.Calls.{Given-cost, Given-braces, Given-amount}
 use Rattle.books.specs.Lookups.{commodity-number, open-account, number-or-0}
-use Rattle.books.specs.Conditions.{not-declared, not-open, braces-without-use}
-use Rattle.books.specs.Refusals.{if-given, braces-fields, cost-not-declared, posting-tests}
+use Rattle.books.specs.Conditions.{bad-number, not-declared, not-open, braces-without-use}
+use Rattle.books.specs.Refusals.{if-given, cost-fields, braces-fields, cost-not-declared, posting-tests}
 use Rattle.books.specs.Changes.{cost-of, purchase-kind, kind-with-braces, kind-of-amount, posting-kind, posting-of}
 use Rattle.law.proofs.Plains.{Account-there, Place-there, Entry-there}
 use Rattle.law.proofs.Serials.{Some-units, All-some}
-use Rattle.law.proofs.Tests.{Unmet, all-right, number-there}
+use Rattle.law.proofs.Tests.{Unmet, all-front, all-right, number-there}
 
 -- there are at most 16 commodities and 64 accounts
 pub record Few (k : Names) : Type 0 where
   pub commodities : length (k .commodities) ≤ 16
   pub accounts : length (k .accounts) ≤ 64
 
+-- a purchase within the ranges of a lot
+pub record Buys (units : ℕ) (cost : Cost) : Type 0 where
+  pub some : 1 ≤ units
+  pub few : units ≤ most
+  pub cheap : cost .number ≤ most
+
 abbrev pub Kind-of-posting-there : ℕ → PostingKind → Type 0
 Kind-of-posting-there a Blank = Account-there a
 Kind-of-posting-there a (Plain amount commodity) = Place-there a commodity
-Kind-of-posting-there a (Purchase units commodity cost date) = 1 ≤ units
+Kind-of-posting-there a (Purchase units commodity cost date) = Buys units cost
 Kind-of-posting-there a (Reduction units commodity cost date) = Unit {0}
 
 abbrev pub Posting-there : Posting → Type 0
@@ -74,7 +82,7 @@ entries-there o day (p ∷ ps) t all =
 kind-some : (a : ℕ) (kind : PostingKind) → Kind-of-posting-there a kind → Some-units kind
 kind-some a Blank there = tt
 kind-some a (Plain amount commodity) there = tt
-kind-some a (Purchase units commodity cost date) there = there
+kind-some a (Purchase units commodity cost date) there = there .some
 kind-some a (Reduction units commodity cost date) there = tt
 
 pub all-some : (ps : List Posting) → All Posting-there ps → All-some ps
@@ -103,20 +111,24 @@ module _ (k : Names) (few : Few k) (account : List ℕ) where
       let most = few .commodities in
       record { a-low = at .a-low; a-high = at .a-high; c-low = low; c-high = omega arith }
 
-  with-braces-there : (number : ℤ) (c : ℕ) (cost : Option Given-cost) (date : Option ℕ) → braces-without-use number (record { cost = cost; date = date }) ≡ false → Place-there a c → Kind-of-posting-there a (kind-with-braces number c (mapped (cost-of k) cost) date)
-  with-braces-there (pos zero) c cost date useful place = absurd (both-ways true useful refl)
-  with-braces-there (pos (suc n)) c None date useful place = place
-  with-braces-there (pos (suc n)) c (Some cost) date useful place = omega arith
-  with-braces-there (negsuc n) c cost date useful place = tt
+  with-braces-there : (number : ℤ) (c : ℕ) (cost : Option Given-cost) (date : Option ℕ) → bad-number number ≡ false → Unmet (if-given cost-fields cost) → braces-without-use number (record { cost = cost; date = date }) ≡ false → Place-there a c
+      → Kind-of-posting-there a (kind-with-braces number c (mapped (cost-of k) cost) date)
+  with-braces-there (pos zero) c cost date ranged fields useful place = absurd (both-ways true useful refl)
+  with-braces-there (pos (suc n)) c None date ranged fields useful place = place
+  with-braces-there (pos (suc n)) c (Some cost) date ranged fields useful place =
+      record { some = omega arith; few = leb-true (suc n) most (not-false (leb (suc n) most) ranged); cheap = leb-true (natAbs (cost .number)) most (not-false (leb (natAbs (cost .number)) most) (fields .0)) }
+  with-braces-there (negsuc n) c cost date ranged fields useful place = tt
 
-  amount-there : (number : ℤ) (c : ℕ) (braces : Option Given-braces) → Unmet (if-given (λ b. (BracesWithoutUse, braces-without-use number b) ∷ []) braces) → Place-there a c → Kind-of-posting-there a (kind-of-amount k number c braces)
-  amount-there number c None unmet place = place
-  amount-there number c (Some b) unmet place = with-braces-there number c (b .cost) (b .date) (unmet .0) place
+  amount-there : (number : ℤ) (c : ℕ) (braces : Option Given-braces) → bad-number number ≡ false → Unmet (if-given braces-fields braces) → Unmet (if-given (λ b. (BracesWithoutUse, braces-without-use number b) ∷ []) braces) → Place-there a c
+      → Kind-of-posting-there a (kind-of-amount k number c braces)
+  amount-there number c None ranged fields unmet place = place
+  amount-there number c (Some b) ranged fields unmet place = with-braces-there number c (b .cost) (b .date) ranged (all-front (λ t. t .1 ≡ false) (if-given cost-fields (b .cost)) _ fields) (unmet .0) place
 
 pub joins-there : (s : State) → Few (s .names) → (slip source : ℕ) (account : List ℕ) (amount : Option Given-amount) → Unmet (posting-tests s slip account amount) → Posting-there (posting-of (s .names) source account amount)
 joins-there s few slip source account None unmet = account-there (s .names) few account (unmet .1 .1 .0)
 joins-there s few slip source account (Some x) unmet =
+    let fields = all-front (λ t. t .1 ≡ false) (if-given braces-fields (x .braces)) _ (unmet .1 .1 .1 .1) in
     let behind-fields = all-right (λ t. t .1 ≡ false) (if-given braces-fields (x .braces)) _ (unmet .1 .1 .1 .1) in
     let behind-costs = all-right (λ t. t .1 ≡ false) (if-given (cost-not-declared s) (x .braces)) _ (behind-fields .1) in
-    amount-there (s .names) few account (x .number) (number-or-0 (commodity-number (s .names) (x .commodity))) (x .braces) (behind-costs .1 .1 .1)
+    amount-there (s .names) few account (x .number) (number-or-0 (commodity-number (s .names) (x .commodity))) (x .braces) (unmet .1 .1 .0) fields (behind-costs .1 .1 .1)
     (place-there (s .names) few account (behind-costs .0) (x .commodity) (behind-fields .0))

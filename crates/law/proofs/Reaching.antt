@@ -114,11 +114,11 @@ module _ (o : Order) (keeps : Keeps o) (day a : ℕ) (t : Table) where
       let M = matches (wanted-lots a commodity cost date) in
       let rest = cond (settled o M u (t .lots)) None (Some NotSettledByPolicy) in
       let covered : u ≤ units-matching M (t .lots) = ⊎-elim
-          (λ (b : ltb (units-matching M (t .lots)) u ≡ true). absurd (none-some TooFewUnits (sym e ∙ cond-true (ltb (units-matching M (t .lots)) u) (Some TooFewUnits) rest b)))
-          (λ (b : ltb (units-matching M (t .lots)) u ≡ false). ltb-false (units-matching M (t .lots)) u b) (cases-bool (ltb (units-matching M (t .lots)) u)) in
+      (λ (b : ltb (units-matching M (t .lots)) u ≡ true). absurd (none-some TooFewUnits (sym e ∙ cond-true (ltb (units-matching M (t .lots)) u) (Some TooFewUnits) rest b)))
+      (λ (b : ltb (units-matching M (t .lots)) u ≡ false). ltb-false (units-matching M (t .lots)) u b) (cases-bool (ltb (units-matching M (t .lots)) u)) in
       closed-form-is-drawn M (o .before u) (keeps .irreflexive u) (keeps .transitive u) (keeps .exactly-one u) u (t .lots) (s .rising) (s .some) covered
 
-first-none : (line : ℕ) (m : Option Refusal) (rest : Option Fault) → or-else (at-line line m) rest ≡ None → (m ≡ None) × (rest ≡ None)
+pub first-none : (line : ℕ) (m : Option Refusal) (rest : Option Fault) → or-else (at-line line m) rest ≡ None → (m ≡ None) × (rest ≡ None)
 first-none line None rest e = (refl, e)
 first-none line (Some r) rest e = absurd (none-some _ (sym e))
 

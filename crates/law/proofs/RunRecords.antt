@@ -158,7 +158,7 @@ module _ (o : Order) (start : List ℕ) where
       → Holds (wrote || writes c) (after-accepted o (history s opened xs) c) (record-change o s c book)
   accepted-holds (declaring source date name) wrote s opened xs book e l g holds = same-holds wrote (history s opened xs) (after-accepted o (history s opened xs) (declaring source date name)) book refl refl holds
   accepted-holds (opening source date name own) wrote s opened xs book e l g holds = same-holds wrote (history s opened xs) (after-accepted o (history s opened xs) (opening source date name own)) book refl refl holds
-  accepted-holds (asserting source date account number commodity) wrote s opened xs book e l g holds = same-holds wrote (history s opened xs) (history s opened xs) book refl refl holds
+  accepted-holds (asserting source date account amount commodity) wrote s opened xs book e l g holds = same-holds wrote (history s opened xs) (history s opened xs) book refl refl holds
   accepted-holds (closing source date account) wrote s opened xs book e l g holds = same-holds wrote (history s opened xs) (after-accepted o (history s opened xs) (closing source date account)) book refl refl holds
   accepted-holds (beginning source date flag) wrote s opened xs book e l g holds = same-holds wrote (history s opened xs) (after-accepted o (history s opened xs) (beginning source date flag)) book refl refl holds
   accepted-holds (posting slip source account amount) wrote s opened xs book e l g holds = same-holds wrote (history s opened xs) (after-accepted o (history s opened xs) (posting slip source account amount)) book refl refl holds

@@ -52,6 +52,7 @@ use Rattle.law.proofs.Fills.{complete-balances, complete-sum, complete-lots-we
 use Rattle.law.proofs.Serials.{Sound, Lot-of-opening, bears-more, postings-sound, postings-bear}
 use Rattle.law.proofs.Reaching.{none-some, some-differ, fault-number, draft-draws, too-many-reached, too-many-reaching, unsettled-reached, unsettled-reaching}
 use Rattle.law.proofs.Tests.{Unmet, none-met, no-line, none-met-at, all-right, both-none, number-differs}
+use Rattle.law.proofs.Limits.{Within, postings-within, well-kept}
 use Rattle.law.proofs.Postings.{Few, Posting-there, Draft-there, entries-there, all-some, joins-there}
 
 abbrev Bears : List Key → Entry → Type 0
@@ -66,6 +67,7 @@ pub record Books-good (b : Books) (opened : List Key) (es : List Entry) : Type 0
   pub weights : (c : ℕ) → 1 ≤ c → c ≤ 16 → weight-sum es c ≡ pos 0
   pub units : Units-are-settled es (b .table .lots)
   pub sound : Sound opened (b .table)
+  pub within : Within (b .table)
   pub bears : All (Bears opened) es
 
 pub record Good (s : State) (opened : List Key) (xs : List Settlement) : Type 0 where
@@ -85,9 +87,9 @@ module _ (o : Order) (b : Books) (opened : List Key) (es : List Entry) (d : Draf
   new-keys = opened-by o (d .date) (b .table) (d .postings)
 
   books-good-after : (own : Option ℕ)
-      → (not (has-blank booked) && not (is-empty (unbalanced-in booked))) ≡ false → blank-cannot-be-filled own booked ≡ false
+      → (not (has-blank booked) && not (is-empty (unbalanced-in booked))) ≡ false → blank-cannot-be-filled own booked ≡ false → first-fault o (d .date) (b .table) (d .postings) ≡ None
       → Books-good (books-after-draft o b d) (opened ++ new-keys) (es ++ complete booked)
-  books-good-after own t25 t26 =
+  books-good-after own t25 t26 unmet-lots =
       let C = complete booked in
       let some = all-some (d .postings) there in
       let there-C : All Entry-there C = complete-there booked (entries-there o (d .date) (d .postings) (b .table) there) in
@@ -119,6 +121,7 @@ module _ (o : Order) (b : Books) (opened : List Key) (es : List Entry) (d : Draf
             let brought-split = sum-of-append (λ e. brought-by-kind k (e .kind)) es C in
             omega arith;
         sound = postings-sound o (d .date) (d .postings) (b .table) opened some (good .sound);
+        within = postings-within o (d .date) (d .postings) (b .table) there unmet-lots (good .within);
         bears = all-append (Bears (opened ++ new-keys)) es C (bears-more opened new-keys es (good .bears))
             (complete-all (Kind-bears-serial (opened ++ new-keys)) (λ _ _ _ _. tt) booked (postings-bear o (d .date) (d .postings) (b .table) opened some (good .sound)));
       }
@@ -142,7 +145,7 @@ settled-good o s lent (Some d) opened xs e there g =
       names = g .names;
       draft = tt;
       books = subst (λ (es : List Entry). Books-good (books-after-draft o (s .books) d) (opened ++ opened-by o (d .date) t (d .postings)) es) (sym all)
-          (books-good-after o (s .books) opened (all-entries xs) d (g .books) there (own-of (s .names) (blank-account booked)) t25 (unmet .1 .0));
+          (books-good-after o (s .books) opened (all-entries xs) d (g .books) there (own-of (s .names) (blank-account booked)) t25 (unmet .1 .0) (parts .0));
       rows = let r = g .rows in let l = ap length all in let m = length-append (all-entries xs) (complete booked) in omega arith;
       transactions = let r = g .transactions in simp length-append (omega arith);
     }
@@ -168,7 +171,7 @@ module _ (o : Order) where
       let behind-own = all-right (λ t. t .1 ≡ false) declared _ (behind-fields .1) in
       let room = leb-false 64 (length (s .names .accounts)) (behind-own .1 .0) in
       record { names = record { commodities = g .names .commodities; accounts = simp length-append (omega arith) }; draft = g .draft; books = g .books; rows = g .rows; transactions = g .transactions }
-  accepted-good (asserting source date account number commodity) s opened xs e g = record { names = g .names; draft = g .draft; books = g .books; rows = g .rows; transactions = g .transactions }
+  accepted-good (asserting source date account amount commodity) s opened xs e g = record { names = g .names; draft = g .draft; books = g .books; rows = g .rows; transactions = g .transactions }
   accepted-good (closing source date account) s opened xs e g =
       record { names = record { commodities = g .names .commodities; accounts = simp length-set (g .names .accounts) }; draft = g .draft; books = g .books; rows = g .rows; transactions = g .transactions }
   accepted-good (beginning source date flag) s opened xs e g = record { names = g .names; draft = tt; books = g .books; rows = g .rows; transactions = g .transactions }
@@ -192,7 +195,7 @@ module _ (o : Order) where
       → history (change o s c) (after-accepted o (history s opened xs) c .opened) (after-accepted o (history s opened xs) c .settlements) ≡ after-accepted o (history s opened xs) c
   accepted-history (declaring source date name) s opened xs = refl
   accepted-history (opening source date name own) s opened xs = refl
-  accepted-history (asserting source date account number commodity) s opened xs = refl
+  accepted-history (asserting source date account amount commodity) s opened xs = refl
   accepted-history (closing source date account) s opened xs = refl
   accepted-history (beginning source date flag) s opened xs = refl
   accepted-history (posting slip source account amount) s opened xs = refl
@@ -203,7 +206,7 @@ module _ (o : Order) where
 pub reply-accepted : (s : State) (c : Call) → accepted (reply s c) ≡ true
 reply-accepted s (declaring source date name) = refl
 reply-accepted s (opening source date name own) = refl
-reply-accepted s (asserting source date account number commodity) = refl
+reply-accepted s (asserting source date account amount commodity) = refl
 reply-accepted s (closing source date account) = refl
 reply-accepted s (beginning source date flag) = refl
 reply-accepted s (posting slip source account amount) = refl
@@ -288,7 +291,7 @@ module _ (o : Order) (keeps : Keeps o) where
   if-settling : (c : Call) (s : State) (opened : List Key) (xs : List Settlement) → Good s opened xs → If-settling o (history s opened xs) c (step o s c .0)
   if-settling (declaring source date name) s opened xs g = tt
   if-settling (opening source date name own) s opened xs g = tt
-  if-settling (asserting source date account number commodity) s opened xs g = tt
+  if-settling (asserting source date account amount commodity) s opened xs g = tt
   if-settling (closing source date account) s opened xs g = tt
   if-settling (beginning source date flag) s opened xs g = tt
   if-settling (posting slip source account amount) s opened xs g = tt
@@ -332,6 +335,7 @@ empty-good = record {
     weights = λ c l h. refl;
     units = λ k. refl;
     sound = record { counted = refl; serials = tt; rising = tt; differ = tt; some = tt };
+    within = record { at-most-256 = omega arith; ranges = tt };
     bears = tt;
   };
   rows = refl;
@@ -352,9 +356,8 @@ stands h s g same = record {
   balances-are-settled = g .books .balances;
   units-are-settled = g .books .units;
   lots-are-settled = ap (λ (x : History). x .table) same;
-  keys-differ = g .books .sound .differ;
+  lots-are-well-kept = well-kept (s .books .table) (h .opened) (g .books .sound) (g .books .within);
   lots-bear-serials = g .books .sound .serials;
-  lots-in-serial-order = g .books .sound .rising;
   next-serial = g .books .sound .counted;
   entries-bear-serials = g .books .bears;
   rows-are-counted = g .rows;

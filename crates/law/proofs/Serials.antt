@@ -48,7 +48,7 @@ pub record Sound (opened : List Key) (t : Table) : Type 0 where
 
 -- What holds of each lot, and of each pair, after units came to one.
 
-false-true : {X : Type 0} → false ≡ true → X
+pub false-true : {X : Type 0} → false ≡ true → X
 false-true e = let z : _≡_ {A = ℕ} 0 1 = cc in absurd (omega arith)
 
 all-grown : (P : LotRow → Type 0) (k : Key) (n next : ℕ) → ((r : LotRow) → P r → P (with-more r n)) → (lots : List LotRow) → is-open k lots ≡ true → All P lots → All P (add-units k n next lots)
@@ -71,7 +71,7 @@ pairs-grown R k n next first second (r ∷ rs) e all =
 
 -- What is left of the lots.
 
-all-left : (P : LotRow → Type 0) (g : LotRow → ℕ) → ((r : LotRow) → P r → g r < r .units → P (with-fewer r (g r))) → (lots : List LotRow) → All P lots → All P (lots-left g lots)
+pub all-left : (P : LotRow → Type 0) (g : LotRow → ℕ) → ((r : LotRow) → P r → g r < r .units → P (with-fewer r (g r))) → (lots : List LotRow) → All P lots → All P (lots-left g lots)
 all-left P g part [] all = tt
 all-left P g part (r ∷ rs) all =
     let ih = all-left P g part rs (all .1) in
@@ -87,7 +87,7 @@ pairs-left R g first second (r ∷ rs) all =
 
 -- A new lot.
 
-added-new : (k : Key) (n next : ℕ) (lots : List LotRow) → is-open k lots ≡ false → lots ++ (record { key = k; units = n; serial = next } ∷ []) ≡ add-units k n next lots
+pub added-new : (k : Key) (n next : ℕ) (lots : List LotRow) → is-open k lots ≡ false → lots ++ (record { key = k; units = n; serial = next } ∷ []) ≡ add-units k n next lots
 added-new k n next [] e = refl
 added-new k n next (r ∷ rs) e =
     let p = or-parts (of-key k r) (is-open k rs) e in

@@ -59,23 +59,23 @@ kind-units o day line a t (Plain amount commodity) k = refl
 kind-units o day line a t (Purchase n commodity cost date) k =
     let j = purchase-key day a commodity cost date in
     let added = sum-of-added (units-if (of-key k)) j n (t .next) (cond (same-key j k) n 0)
-        (λ r e. subst (λ (q : Key). cond (same-key q k) (r .units + n) 0 ≡ cond (same-key q k) (r .units) 0 + cond (same-key j k) n 0) (sym (key-same (r .key) j e))
-            (by-bool (same-key j k) (λ (b : Bool). cond b (r .units + n) 0 ≡ cond b (r .units) 0 + cond b n 0) (λ _. refl) (λ _. refl)))
-        refl (t .lots) in
+    (λ r e. subst (λ (q : Key). cond (same-key q k) (r .units + n) 0 ≡ cond (same-key q k) (r .units) 0 + cond (same-key j k) n 0) (sym (key-same (r .key) j e))
+    (by-bool (same-key j k) (λ (b : Bool). cond b (r .units + n) 0 ≡ cond b (r .units) 0 + cond b n 0) (λ _. refl) (λ _. refl)))
+    refl (t .lots) in
     omega arith
 kind-units o day line a t (Reduction u commodity cost date) k =
     let w = wanted-lots a commodity cost date in
     let g = gives (matches w) (o .before u) u (t .lots) in
     let h : LotRow → ℕ = λ r. cond (same-key (r .key) k) (g r) 0 in
     let rest = sum-of-left (units-if (of-key k)) h g
-        (λ r. let m = gives-most (matches w) (o .before u) u (t .lots) r in
-            by-bool (same-key (r .key) k) (λ (b : Bool). cond b (r .units - g r) 0 + cond b (g r) 0 ≡ cond b (r .units) 0) (λ _. omega arith) (λ _. refl))
-        (λ r l. let m = gives-most (matches w) (o .before u) u (t .lots) r in ap (λ (n : ℕ). cond (same-key (r .key) k) n 0) (omega arith))
-        (t .lots) in
+    (λ r. let m = gives-most (matches w) (o .before u) u (t .lots) r in
+    by-bool (same-key (r .key) k) (λ (b : Bool). cond b (r .units - g r) 0 + cond b (g r) 0 ≡ cond b (r .units) 0) (λ _. omega arith) (λ _. refl))
+    (λ r l. let m = gives-most (matches w) (o .before u) u (t .lots) r in ap (λ (n : ℕ). cond (same-key (r .key) k) n 0) (omega arith))
+    (t .lots) in
     let ds = draws-of o w u (t .lots) in
     let x = drawn-all k line ds in
     let y = sum-of-draws (λ d. cond (same-key (d .lot .key) k) (d .units) 0) (o .before u) g
-        (λ r z. cond-both (same-key (r .key) k) (g r) 0 (λ n. n ≡ 0) (λ _. z) (λ _. refl)) (t .lots) in
+    (λ r z. cond-both (same-key (r .key) k) (g r) 0 (λ n. n ≡ 0) (λ _. z) (λ _. refl)) (t .lots) in
     let z = brought-none k line ds in
     omega arith
 
@@ -108,9 +108,9 @@ kind-at-cost o day line a t (Plain amount commodity) c = omega (arith, ints)
 kind-at-cost o day line a t (Purchase n commodity cost date) c =
     let j = purchase-key day a commodity cost date in
     let added = sum-of-added (lot-at-cost c) j n (t .next) (cond (eqb (cost .commodity) c) (n * cost .number) 0)
-        (λ r e. subst (λ (q : Key). cond (eqb (q .cost .commodity) c) ((r .units + n) * q .cost .number) 0 ≡ cond (eqb (q .cost .commodity) c) (r .units * q .cost .number) 0 + cond (eqb (cost .commodity) c) (n * cost .number) 0) (sym (key-same (r .key) j e))
-            (by-bool (eqb (cost .commodity) c) (λ (b : Bool). cond b ((r .units + n) * cost .number) 0 ≡ cond b (r .units * cost .number) 0 + cond b (n * cost .number) 0) (λ _. times-add (r .units) n (cost .number)) (λ _. refl)))
-        refl (t .lots) in
+    (λ r e. subst (λ (q : Key). cond (eqb (q .cost .commodity) c) ((r .units + n) * q .cost .number) 0 ≡ cond (eqb (q .cost .commodity) c) (r .units * q .cost .number) 0 + cond (eqb (cost .commodity) c) (n * cost .number) 0) (sym (key-same (r .key) j e))
+    (by-bool (eqb (cost .commodity) c) (λ (b : Bool). cond b ((r .units + n) * cost .number) 0 ≡ cond b (r .units * cost .number) 0 + cond b (n * cost .number) 0) (λ _. times-add (r .units) n (cost .number)) (λ _. refl)))
+    refl (t .lots) in
     let w = n * cost .number in
     let x = by-bool (eqb (cost .commodity) c) (λ (b : Bool). cond b (pos w) (pos 0) ≡ pos (cond b w 0)) (λ _. refl) (λ _. refl) in
     omega (arith, ints)
@@ -119,14 +119,14 @@ kind-at-cost o day line a t (Reduction u commodity cost date) c =
     let g = gives (matches w) (o .before u) u (t .lots) in
     let h : LotRow → ℕ = λ r. cond (eqb (r .key .cost .commodity) c) (g r * r .key .cost .number) 0 in
     let rest = sum-of-left (lot-at-cost c) h g
-        (λ r. let m = gives-most (matches w) (o .before u) u (t .lots) r in
-            by-bool (eqb (r .key .cost .commodity) c) (λ (b : Bool). cond b ((r .units - g r) * r .key .cost .number) 0 + cond b (g r * r .key .cost .number) 0 ≡ cond b (r .units * r .key .cost .number) 0) (λ _. times-less (r .units) (g r) (r .key .cost .number) m) (λ _. refl))
-        (λ r l. let m = gives-most (matches w) (o .before u) u (t .lots) r in ap (λ (n : ℕ). cond (eqb (r .key .cost .commodity) c) (n * r .key .cost .number) 0) (omega arith))
-        (t .lots) in
+    (λ r. let m = gives-most (matches w) (o .before u) u (t .lots) r in
+    by-bool (eqb (r .key .cost .commodity) c) (λ (b : Bool). cond b ((r .units - g r) * r .key .cost .number) 0 + cond b (g r * r .key .cost .number) 0 ≡ cond b (r .units * r .key .cost .number) 0) (λ _. times-less (r .units) (g r) (r .key .cost .number) m) (λ _. refl))
+    (λ r l. let m = gives-most (matches w) (o .before u) u (t .lots) r in ap (λ (n : ℕ). cond (eqb (r .key .cost .commodity) c) (n * r .key .cost .number) 0) (omega arith))
+    (t .lots) in
     let ds = draws-of o w u (t .lots) in
     let x = weight-all c line ds in
     let y = sum-of-draws (λ d. cond (eqb (d .lot .key .cost .commodity) c) (d .units * d .lot .key .cost .number) 0) (o .before u) g
-        (λ r z. cond-both (eqb (r .key .cost .commodity) c) (g r * r .key .cost .number) 0 (λ n. n ≡ 0) (λ _. ap (λ (n : ℕ). n * r .key .cost .number) z ∙ omega arith) (λ _. refl)) (t .lots) in
+    (λ r z. cond-both (eqb (r .key .cost .commodity) c) (g r * r .key .cost .number) 0 (λ n. n ≡ 0) (λ _. ap (λ (n : ℕ). n * r .key .cost .number) z ∙ omega arith) (λ _. refl)) (t .lots) in
     omega (arith, ints)
 
 pub postings-at-cost : (o : Order) (day : ℕ) (ps : List Posting) (t : Table) (c : ℕ)

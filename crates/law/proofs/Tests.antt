@@ -40,7 +40,11 @@ no-line line (Some r) e = absurd (none-some (fault-at line r) (sym e))
 pub none-met-at : (line : ℕ) (ts : List (Refusal × Bool)) → first-fault-met (tests-at line ts) ≡ None → Unmet ts
 none-met-at line ts e = none-met ts (no-line line (first-met ts) (sym (first-at line ts) ∙ e))
 
--- what holds of all of two lists holds of all of the second
+-- what holds of all of two lists holds of all of each
+pub all-front : {X : Type 0} (P : X → Type 0) (xs ys : List X) → All P (xs ++ ys) → All P xs
+all-front P [] ys all = tt
+all-front P (x ∷ xs) ys all = (all .0, all-front P xs ys (all .1))
+
 pub all-right : {X : Type 0} (P : X → Type 0) (xs ys : List X) → All P (xs ++ ys) → All P ys
 all-right P [] ys all = all
 all-right P (x ∷ xs) ys all = all-right P xs ys (all .1)

@@ -86,7 +86,7 @@ with-settlement o h (Some d) = record {
 abbrev pub after-accepted : Order → History → Call → History
 after-accepted o h (declaring source date name) = with-names h (with-commodity (h .names) name)
 after-accepted o h (opening source date name own) = with-names h (with-account (h .names) name own)
-after-accepted o h (asserting source date account number commodity) = h
+after-accepted o h (asserting source date account amount commodity) = h
 after-accepted o h (closing source date account) = with-names h (with-account-closed (h .names) (number-or-0 (open-account (h .names) account)))
 after-accepted o h (beginning source date flag) = with-draft h (Some (new-draft source date flag))
 after-accepted o h (posting slip source account amount) = with-draft h (mapped (with-posting (posting-of (h .names) source account amount)) (h .draft))

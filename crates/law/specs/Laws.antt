@@ -5,8 +5,7 @@ use Prim.Native.Nat.{ℕ, _+_}
 use lib.ListN.{length}
 use Rattle.std.specs.shelf.Lists.{All}
 use Rattle.lots.specs.Orders.{Order, Keeps}
-use Rattle.matching.specs.Drawn.{Serials-rise}
-use Rattle.stock.specs.Kept.{Keys-differ}
+use Rattle.stock.specs.Kept.{Well-kept}
 use Rattle.books.specs.declared.outcome.Outcome.{Outcome}
 use Rattle.books.specs.States.{State, empty-ledger}
 use Rattle.books.specs.Calls.{Call}
@@ -21,9 +20,10 @@ pub record Stands (h : History) (end : State) : Type 0 where
   pub balances-are-settled : Balances-are-settled (all-entries (h .settlements)) (end .books)
   pub units-are-settled : Units-are-settled (all-entries (h .settlements)) (end .books .table .lots)
   pub lots-are-settled : end .books .table ≡ h .table
-  pub keys-differ : Keys-differ (end .books .table .lots)
+  -- at most 256 open lots, each within its ranges, with different keys, in the order of their serials
+  pub lots-are-well-kept : Well-kept (end .books .table)
+  -- open lots and settled entries bear the serials that were counted, from 1, as lots were opened
   pub lots-bear-serials : All (λ r. Serial-of-opening (h .opened) (r .serial) (r .key)) (end .books .table .lots)
-  pub lots-in-serial-order : Serials-rise (end .books .table .lots)
   pub next-serial : end .books .table .next ≡ length (h .opened) + 1
   pub entries-bear-serials : All (λ e. Kind-bears-serial (h .opened) (e .kind)) (all-entries (h .settlements))
   pub rows-are-counted : end .rows ≡ length (all-entries (h .settlements))

@@ -19,7 +19,7 @@ use Rattle.law.specs.Histories.{History, history-of, accepted, all-entries, al
 abbrev pub writes : Call → Bool
 writes (declaring source date name) = false
 writes (opening source date name own) = false
-writes (asserting source date account number commodity) = false
+writes (asserting source date account amount commodity) = false
 writes (closing source date account) = false
 writes (beginning source date flag) = false
 writes (posting slip source account amount) = false
@@ -47,7 +47,7 @@ recorded o h book =
 abbrev pub Lent-within : ℕ → Call → Type 0
 Lent-within size (declaring source date name) = Unit {0}
 Lent-within size (opening source date name own) = Unit {0}
-Lent-within size (asserting source date account number commodity) = Unit {0}
+Lent-within size (asserting source date account amount commodity) = Unit {0}
 Lent-within size (closing source date account) = Unit {0}
 Lent-within size (beginning source date flag) = Unit {0}
 Lent-within size (posting slip source account amount) = Unit {0}

@@ -86,7 +86,7 @@ pub record Settling (o : Order) (h : History) (x : Outcome) : Type 0 where
 abbrev pub If-settling : Order → History → Call → Outcome → Type 0
 If-settling o h (declaring source date name) x = Unit {0}
 If-settling o h (opening source date name own) x = Unit {0}
-If-settling o h (asserting source date account number commodity) x = Unit {0}
+If-settling o h (asserting source date account amount commodity) x = Unit {0}
 If-settling o h (closing source date account) x = Unit {0}
 If-settling o h (beginning source date flag) x = Unit {0}
 If-settling o h (posting slip source account amount) x = Unit {0}

@@ -1,7 +1,7 @@
 // A name from its text and back. A text of a name is never longer than the place for it.
 ghost use mathlib.Core.Path.{_≡_};
 ghost use lib.ListN.{take};
-ghost use Rattle.books.specs.Kept.{name-bytes};
+ghost use Rattle.books.specs.View.{name-bytes};
 use super::LONGEST_NAME;
 use super::Name;
 use bytes::front;
