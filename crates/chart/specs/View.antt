@@ -7,7 +7,7 @@ use lib.ListN.{length, take, set}
 use Rattle.std.specs.declared.option.Option.{Option}
 use Rattle.bounded.specs.Items.{items}
 use Rattle.books.specs.Changes.{closed}
-use Rattle.books.specs.Kept.{name-bytes, account-of}
+use Rattle.books.specs.View.{name-bytes, account-of}
 use Rattle.books.specs.Lookups.{account-at}
 use Rattle.books.specs.States.{Account, Names}
 use Rattle.chart.specs.declared.table.Chart.{Chart}

@@ -3,7 +3,7 @@ ghost use mathlib.Core.Path.{_≡_};
 ghost use mathlib.Core.List.{map};
 ghost use Prim.Native.Nat.{_≤_};
 ghost use lib.ListN.{length};
-ghost use Rattle.books.specs.Kept.{name-bytes, account-of};
+ghost use Rattle.books.specs.View.{name-bytes, account-of};
 ghost use Rattle.books.specs.Lookups.{number-of-first};
 ghost use Rattle.chart.specs.Tests.{named, account-passes};
 use books::account::Account;

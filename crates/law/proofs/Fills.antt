@@ -159,6 +159,7 @@ module _ (own : Option ℕ) (es : List Entry) where
   -- a draft that meets neither 25 nor 26 is balanced once its blank is filled
   pub complete-balances : (not (has-blank es) && not (is-empty (unbalanced-in es))) ≡ false → (has-blank es && not (can-fill own (weight-sum es) (unbalanced-in es))) ≡ false
       → (c : ℕ) → 1 ≤ c → c ≤ 16 → weight-sum (complete es) c ≡ pos 0
+  unfolding unbalanced-in
   complete-balances t25 t26 c l m = filled-balances (unbalanced-in es) (balanced-or-listed (weight-sum es) 16) t25 t26 c l m
 
 -- Completing, by what filling does.
@@ -168,6 +169,7 @@ filled-by-keeps P es none some [] there = none
 filled-by-keeps P es none some (c ∷ cs) there = some (blank-amount (weight-sum es c)) c (there .0 .0) (there .0 .1)
 
 pub complete-keeps : (P : List Entry → Type 0) (es : List Entry) → P es → ((z : ℤ) (c : ℕ) → 1 ≤ c → c ≤ 16 → P (fill z c es)) → P (complete es)
+unfolding unbalanced-in
 complete-keeps P es none some = filled-by-keeps P es none some (unbalanced-in es) (unbalanced-there (weight-sum es) 16)
 
 pub complete-sum : (f : EntryKind → ℕ) → ((z : ℤ) (c a : ℕ) → f (Filled a z c) ≡ f (Unfilled a)) → (es : List Entry) → sum-of (λ e. f (e .kind)) (complete es) ≡ sum-of (λ e. f (e .kind)) es

@@ -1,6 +1,6 @@
 use Prim.Native.Nat.{_+_}
 use mathlib.Core.Path.{sym, _∙_}
-use Rattle.books.specs.Kept.{account-of}
+use Rattle.books.specs.View.{account-of}
 use Rattle.chart.specs.Tests.{account-passes}
 use Rattle.chart.proofs.Firsts.{first-here, first-later, first-none}
 use Rattle.chart.proofs.search.account_of.Needs as need

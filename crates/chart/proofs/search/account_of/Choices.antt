@@ -1,7 +1,7 @@
 use Prim.Native.Nat.{_+_}
 use mathlib.Core.Path.{_≡_}
 use lib.ListN.{drop}
-use Rattle.books.specs.Kept.{account-of}
+use Rattle.books.specs.View.{account-of}
 use Rattle.chart.specs.Tests.{account-passes}
 use Rattle.chart.proofs.Firsts.{first-of}
 use Rattle.chart.proofs.search.account_of.Given as given

@@ -1,6 +1,6 @@
 use Prim.Native.Nat.{_+_}
 use mathlib.Core.Path.{sym, _∙_}
-use Rattle.books.specs.Kept.{name-bytes}
+use Rattle.books.specs.View.{name-bytes}
 use Rattle.chart.specs.Tests.{named}
 use Rattle.chart.proofs.Firsts.{first-here, first-later, first-none}
 use Rattle.chart.proofs.search.commodity_of.Needs as need

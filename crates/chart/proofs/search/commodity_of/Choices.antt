@@ -1,7 +1,7 @@
 use Prim.Native.Nat.{_+_}
 use mathlib.Core.Path.{_≡_}
 use lib.ListN.{drop}
-use Rattle.books.specs.Kept.{name-bytes}
+use Rattle.books.specs.View.{name-bytes}
 use Rattle.chart.specs.Tests.{named}
 use Rattle.chart.proofs.Firsts.{first-of}
 use Rattle.chart.proofs.search.commodity_of.Given as given

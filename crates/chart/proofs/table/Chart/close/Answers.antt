@@ -8,7 +8,7 @@ use Rattle.std.specs.declared.option.Option.the-variants.{None}
 use Rattle.std.proofs.shelf.Lists.{getD-map, map-set}
 use Rattle.bounded.specs.Items.{items}
 use Rattle.books.specs.Changes.{closed}
-use Rattle.books.specs.Kept.{name-bytes, account-of}
+use Rattle.books.specs.View.{name-bytes, account-of}
 use Rattle.books.specs.Lookups.{no-account, account-at}
 use Rattle.books.specs.States.{Account, Names}
 use Rattle.books.specs.declared.account.Account as kept

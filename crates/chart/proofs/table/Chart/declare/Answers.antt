@@ -2,7 +2,7 @@ use Prim.Native.Nat.{ℕ}
 use mathlib.Core.Path.{_≡_, _∙_, ap}
 use mathlib.Core.List.{List, map}
 use Rattle.bounded.specs.Items.{items, pushed}
-use Rattle.books.specs.Kept.{name-bytes, account-of}
+use Rattle.books.specs.View.{name-bytes, account-of}
 use Rattle.books.specs.States.{Names}
 use Rattle.books.specs.declared.name.Name.{Name}
 use Rattle.chart.specs.View.{push-below}

@@ -1,7 +1,7 @@
 use mathlib.Core.Path.{_∙_, ap}
 use mathlib.Core.List.{List, map}
 use Rattle.std.specs.Options.{isSome}
-use Rattle.books.specs.Kept.{account-of}
+use Rattle.books.specs.View.{account-of}
 use Rattle.books.specs.Lookups.{any}
 use Rattle.books.specs.declared.account.Account as kept
 use Rattle.chart.specs.Tests.{account-passes}

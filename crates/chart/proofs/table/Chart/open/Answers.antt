@@ -3,7 +3,7 @@ use mathlib.Core.Path.{_≡_, _∙_, ap}
 use mathlib.Core.Bool.{true}
 use mathlib.Core.List.{List, map}
 use Rattle.bounded.specs.Items.{items}
-use Rattle.books.specs.Kept.{name-bytes, account-of}
+use Rattle.books.specs.View.{name-bytes, account-of}
 use Rattle.books.specs.States.{Account, Names}
 use Rattle.chart.specs.View.{push-below}
 use Rattle.chart.proofs.Mapped.{pushed-map, second}

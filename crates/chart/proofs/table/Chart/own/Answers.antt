@@ -7,7 +7,7 @@ use lib.ListN.{length, getD}
 use Rattle.std.specs.declared.option.Option.the-variants.{None}
 use Rattle.std.proofs.shelf.Lists.{getD-map}
 use Rattle.bounded.specs.Items.{items}
-use Rattle.books.specs.Kept.{account-of}
+use Rattle.books.specs.View.{account-of}
 use Rattle.books.specs.Lookups.{no-account}
 use Rattle.books.specs.States.{Account}
 use Rattle.books.specs.declared.account.Account as kept
