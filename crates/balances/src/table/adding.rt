@@ -1,8 +1,10 @@
 // Adding amounts to balances that are not settled yet, and their range.
 ghost use mathlib.Core.Path.{_≡_};
 ghost use Prim.Native.Nat.{ℕ, _+_, _*_, _-_, _≤_};
+ghost use lib.Dec.{leb};
+ghost use lib.IntN.{natAbs};
 ghost use lib.ListN.{length};
-ghost use Rattle.booking.specs.Balances.{balance-place, add-amount, add-kind, balances-after, all-within};
+ghost use Rattle.booking.specs.Balances.{balance-place, add-amount, add-kind, balances-after, largest-balance, all-within};
 ghost use Rattle.balances.specs.Bounds.{Near};
 use super::PLACES;
 use booking::entry::Entry;
@@ -68,12 +70,18 @@ pub(crate) fn add_entries(places: &mut [i64; PLACES], entries: &[Entry])
     }
 }
 
+fn is_within(balance: i64) -> bool
+    ensures { λ r. ⌜ r ≡ leb (natAbs balance) largest-balance ⌝ }
+{
+    balance.unsigned_abs() <= LARGEST
+}
+
 // Whether no balance is larger in size than the largest.
 pub(crate) fn all_within(places: &[i64]) -> bool
     ensures { λ r. ⌜ r ≡ all-within (now (places .entry)) ⌝ }
 {
     for balance in places {
-        if balance.unsigned_abs() > LARGEST {
+        if !is_within(*balance) {
             return false;
         }
     }
