@@ -22,8 +22,9 @@ use Rattle.lots.specs.declared.rows.LotRow.{LotRow}
 use Rattle.lots.specs.Rows.{most}
 use Rattle.lots.specs.Orders.{Order, Keeps}
 use Rattle.matching.specs.Matching.{matches, units-matching}
-use Rattle.matching.specs.Drawing.{settled}
-use Rattle.matching.specs.Drawn.{Serials-rise}
+use Rattle.matching.specs.declared.wanted.Draw.{Draw}
+use Rattle.matching.specs.Drawing.{settled, draws-of, lots-after}
+use Rattle.matching.specs.Drawn.{Serials-rise, Drawn}
 use Rattle.matching.proofs.Sums.{by-bool}
 use Rattle.matching.proofs.Drawing.{closed-form-is-drawn}
 use Rattle.matching.proofs.Earliest.{unsettled-from, unsettled-to}
@@ -31,10 +32,10 @@ use Rattle.stock.specs.Tables.{Table, is-open, units-of-key}
 use Rattle.booking.specs.declared.posting.Posting.{Posting}
 use Rattle.booking.specs.declared.posting.PostingKind.{PostingKind}
 use Rattle.booking.specs.declared.posting.PostingKind.the-variants.{Blank, Plain, Purchase, Reduction}
-use Rattle.booking.specs.Postings.{purchase-key, wanted-lots, table-after-posting, kind-refusal, posting-refusal}
+use Rattle.booking.specs.Postings.{purchase-key, wanted-lots, table-after-posting, draw-entries, kind-refusal, posting-refusal}
 use Rattle.booking.specs.Booking.{at-line, or-else, first-fault}
 use Rattle.law.specs.Histories.{opened-by-kind}
-use Rattle.law.specs.Reductions.{Kind-draws, Draws-by-policy, Asks-too-many, Is-unsettled, Reaches}
+use Rattle.law.specs.Reductions.{draws-among, Kind-draws, Draws-by-policy, Asks-too-many, Is-unsettled, Reaches}
 use Rattle.law.proofs.Serials.{Sound, Some-units, All-some, kind-sound}
 
 -- the number of a refusal, and of a fault, if there is one
@@ -49,6 +50,11 @@ none-some x e = let z : _≡_ {A = ℕ} 0 1 = cc in omega arith
 
 pub some-differ : (m n : ℕ) → (m ≡ n → ⊥) → _≡_ {A = Option ℕ} (Some m) (Some n) → ⊥
 some-differ m n ne e = ne (cc)
+
+-- the entries of draws are those draws
+draws-back : (line : ℕ) (ds : List Draw) → draws-among (draw-entries line ds) ≡ ds
+draws-back line [] = refl
+draws-back line (d ∷ ds) = ap (λ (es : List Draw). d ∷ es) (draws-back line ds)
 
 module _ (o : Order) (keeps : Keeps o) (day a : ℕ) (t : Table) where
   -- a purchase meets 21 or 24 alone
@@ -106,17 +112,18 @@ module _ (o : Order) (keeps : Keeps o) (day a : ℕ) (t : Table) where
       ∙ cond-false (settled o M u (t .lots)) None (Some NotSettledByPolicy) (unsettled-to o keeps M u (t .lots) ri h))
 
   -- a reduction that meets nothing draws by the policy
-  kind-draws : (kind : PostingKind) (opened : List Key) → Sound opened t → kind-refusal o day a t kind ≡ None → Kind-draws o a t kind
-  kind-draws Blank opened s e = tt
-  kind-draws (Plain amount commodity) opened s e = tt
-  kind-draws (Purchase units commodity cost date) opened s e = tt
-  kind-draws (Reduction u commodity cost date) opened s e =
+  kind-draws : (line : ℕ) (kind : PostingKind) (opened : List Key) → Sound opened t → kind-refusal o day a t kind ≡ None → Kind-draws o day line a t kind
+  kind-draws line Blank opened s e = tt
+  kind-draws line (Plain amount commodity) opened s e = tt
+  kind-draws line (Purchase units commodity cost date) opened s e = tt
+  kind-draws line (Reduction u commodity cost date) opened s e =
       let M = matches (wanted-lots a commodity cost date) in
       let rest = cond (settled o M u (t .lots)) None (Some NotSettledByPolicy) in
       let covered : u ≤ units-matching M (t .lots) = ⊎-elim
       (λ (b : ltb (units-matching M (t .lots)) u ≡ true). absurd (none-some TooFewUnits (sym e ∙ cond-true (ltb (units-matching M (t .lots)) u) (Some TooFewUnits) rest b)))
       (λ (b : ltb (units-matching M (t .lots)) u ≡ false). ltb-false (units-matching M (t .lots)) u b) (cases-bool (ltb (units-matching M (t .lots)) u)) in
-      closed-form-is-drawn M (o .before u) (keeps .irreflexive u) (keeps .transitive u) (keeps .exactly-one u) u (t .lots) (s .rising) (s .some) covered
+      subst (λ (ds : List Draw). Drawn M (o .before u) u (t .lots) (lots-after o (wanted-lots a commodity cost date) u (t .lots)) ds) (sym (draws-back line (draws-of o (wanted-lots a commodity cost date) u (t .lots))))
+      (closed-form-is-drawn M (o .before u) (keeps .irreflexive u) (keeps .transitive u) (keeps .exactly-one u) u (t .lots) (s .rising) (s .some) covered)
 
 pub first-none : (line : ℕ) (m : Option Refusal) (rest : Option Fault) → or-else (at-line line m) rest ≡ None → (m ≡ None) × (rest ≡ None)
 first-none line None rest e = (refl, e)
@@ -133,7 +140,7 @@ module _ (o : Order) (keeps : Keeps o) (day : ℕ) where
   draft-draws (p ∷ ps) t opened some s e =
       let after = table-after-posting o day t p in
       let h = first-none (p .line) (posting-refusal o day t p) (first-fault o day after ps) e in
-      (kind-draws o keeps day (p .account) t (p .kind) opened s (h .0), draft-draws ps after (opened ++ opened-by-kind day (p .account) t (p .kind)) (some .1) (kind-sound o day (p .account) t (p .kind) opened (some .0) s) (h .1))
+      (kind-draws o keeps day (p .account) t (p .line) (p .kind) opened s (h .0), draft-draws ps after (opened ++ opened-by-kind day (p .account) t (p .kind)) (some .1) (kind-sound o day (p .account) t (p .kind) opened (some .0) s) (h .1))
 
   module _ (P : ℕ → Table → PostingKind → Type 0) (n : ℕ)
       (to : (a : ℕ) (t : Table) (kind : PostingKind) → refusal-number (kind-refusal o day a t kind) ≡ Some n → P a t kind)

@@ -1,6 +1,6 @@
 -- What the record holds after a run.
 use mathlib.Core.Path.{_≡_, refl, sym, ap, subst, _∙_}
-use mathlib.Core.List.{List, [], _∷_, _++_}
+use mathlib.Core.List.{List, [], _∷_, _++_, map}
 use mathlib.Core.Logic.{⊎-elim}
 use mathlib.Core.Bool.{Bool, true, false, cond, not, _&&_, _||_}
 use Prim.Native.Nat.{ℕ, _+_, _*_, _≤_}
@@ -34,7 +34,7 @@ use Rattle.books.specs.Steps.{answered, step, outcomes}
 use Rattle.books.specs.Recording.{header-of, transaction-of, draft-rows, record-after-settling, record-change, record-answered, record-after-call, record-after-calls}
 use Rattle.books.proofs.Nested.{draft-first}
 use Rattle.law.specs.Histories.{Settlement, History, no-history, accepted, with-settlement, after-accepted, after-call, history-after, all-entries, all-rows}
-use Rattle.law.specs.Records.{writes, any-wrote, header-of-history, recorded, Lent-within, Record-stands}
+use Rattle.law.specs.Records.{writes, any-wrote, header-of-history, recorded, Lent-within, lend-within, Record-stands}
 use Rattle.law.proofs.Sums.{joined-push}
 use Rattle.law.proofs.Fills.{complete-length}
 use Rattle.law.proofs.Reaching.{none-some}
@@ -192,3 +192,19 @@ module _ (o : Order) (start : List ℕ) where
 
 pub record-stands : Record-stands
 record-stands o keeps calls book lent = run-holds o book keeps calls false empty-ledger [] [] book lent empty-good (record { is = refl; early = λ _. refl })
+
+-- calls that are lent no more than there is
+pub lent-within : (size : ℕ) (calls : List Call) → All (Lent-within size) (map (lend-within size) calls)
+lent-within size [] = tt
+lent-within size (c ∷ cs) = (at c, lent-within size cs)
+  where
+    at : (c : Call) → Lent-within size (lend-within size c)
+    at (declaring source date name) = tt
+    at (opening source date name own) = tt
+    at (asserting source date account amount commodity) = tt
+    at (closing source date account) = tt
+    at (beginning source date flag) = tt
+    at (posting slip source account amount) = tt
+    at (settling slip lent) = omega arith
+    at (tearing slip) = tt
+    at (writing-header lent) = omega arith

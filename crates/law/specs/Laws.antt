@@ -35,6 +35,10 @@ pub record Lawful (o : Order) (calls : List Call) (outs : List Outcome) (end : S
   pub stands : Stands (history-of o calls outs) end
   pub reductions-draw-by-policy : Each-settling o no-history calls outs
 
--- It holds of every policy that keeps the laws, and of every list of calls on a new ledger.
+-- of every list of calls on a new ledger
+abbrev pub Books-stand-under : Order → Type 0
+Books-stand-under o = (calls : List Call) → Lawful o calls (outcomes o empty-ledger calls) (state-after o empty-ledger calls)
+
+-- It holds of every policy that keeps the laws.
 abbrev pub Books-stand : Type 0
-Books-stand = (o : Order) → Keeps o → (calls : List Call) → Lawful o calls (outcomes o empty-ledger calls) (state-after o empty-ledger calls)
+Books-stand = (o : Order) → Keeps o → Books-stand-under o

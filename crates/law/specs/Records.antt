@@ -2,7 +2,7 @@
 use mathlib.Core.Path.{_≡_}
 use mathlib.Core.List.{List, [], _∷_, _++_}
 use mathlib.Core.Bool.{Bool, true, false, cond, _&&_, _||_}
-use Prim.Native.Nat.{ℕ, _≤_}
+use Prim.Native.Nat.{ℕ, min, _≤_}
 use lib.ListN.{length, drop}
 use Rattle.std.specs.shelf.Lists.{All}
 use Rattle.lots.specs.Orders.{Order, Keeps}
@@ -55,8 +55,24 @@ Lent-within size (settling slip lent) = lent ≤ size
 Lent-within size (tearing slip) = Unit {0}
 Lent-within size (writing-header lent) = lent ≤ size
 
--- Untouched until a call writes to it; from then on the record of the history.
-abbrev pub Record-stands : Type 0
-Record-stands =
-    (o : Order) → Keeps o → (calls : List Call) (book : List ℕ) → All (Lent-within (length book)) calls
+-- untouched until a call writes to it; from then on the record of the history
+abbrev pub Record-stands-under : Order → Type 0
+Record-stands-under o =
+    (calls : List Call) (book : List ℕ) → All (Lent-within (length book)) calls
     → record-after-calls o empty-ledger calls book ≡ cond (any-wrote calls (outcomes o empty-ledger calls)) (recorded o (history-of o calls (outcomes o empty-ledger calls)) book) book
+
+-- It holds of every policy that keeps the laws.
+abbrev pub Record-stands : Type 0
+Record-stands = (o : Order) → Keeps o → Record-stands-under o
+
+-- the same call, lent no more than a record of this size has
+abbrev pub lend-within : ℕ → Call → Call
+lend-within size (declaring source date name) = declaring source date name
+lend-within size (opening source date name own) = opening source date name own
+lend-within size (asserting source date account amount commodity) = asserting source date account amount commodity
+lend-within size (closing source date account) = closing source date account
+lend-within size (beginning source date flag) = beginning source date flag
+lend-within size (posting slip source account amount) = posting slip source account amount
+lend-within size (settling slip lent) = settling slip (min lent size)
+lend-within size (tearing slip) = tearing slip
+lend-within size (writing-header lent) = writing-header (min lent size)

@@ -6,35 +6,50 @@ use mathlib.Core.Bool.{Bool, true}
 use Prim.Native.Nat.{ℕ}
 use Rattle.std.specs.declared.option.Option.{Option}
 use Rattle.std.specs.declared.option.Option.the-variants.{Some, None}
+use Rattle.std.specs.shelf.Lists.{joined}
 use Rattle.refusal.specs.Table.{number-of}
 use Rattle.lots.specs.Orders.{Order}
+use Rattle.matching.specs.declared.wanted.Draw.{Draw}
 use Rattle.matching.specs.Matching.{matches}
-use Rattle.matching.specs.Drawing.{draws-of}
 use Rattle.matching.specs.Drawn.{Drawn, Too-few, Unsettled}
-use Rattle.stock.specs.Tables.{Table, table-after-reduction}
+use Rattle.stock.specs.Tables.{Table}
 use Rattle.booking.specs.declared.posting.Posting.{Posting}
 use Rattle.booking.specs.declared.posting.PostingKind.{PostingKind}
 use Rattle.booking.specs.declared.posting.PostingKind.the-variants.{Blank, Plain, Purchase, Reduction}
-use Rattle.booking.specs.Postings.{wanted-lots, table-after-posting, posting-refusal}
+use Rattle.booking.specs.declared.entry.Entry.{Entry}
+use Rattle.booking.specs.declared.entry.EntryKind.{EntryKind}
+use Rattle.booking.specs.declared.entry.EntryKind.the-variants.{PlainAmount, Unfilled, Filled, Bought, Drew}
+use Rattle.booking.specs.Postings.{wanted-lots, table-after-kind, table-after-posting, entries-of-kind, posting-refusal}
 use Rattle.books.specs.declared.outcome.Outcome.{Outcome}
 use Rattle.books.specs.declared.outcome.Outcome.the-variants.{Declared, Opened, Begun, Settled, Done, Refused}
 use Rattle.books.specs.States.{Draft}
 use Rattle.books.specs.Calls.{Call, declaring, opening, asserting, closing, beginning, posting, settling, tearing, writing-header}
 use Rattle.law.specs.Histories.{History, accepted, after-call}
 
+-- the draws among entries, in their order
+abbrev pub draw-in-kind : EntryKind → List Draw
+draw-in-kind (PlainAmount account amount commodity) = []
+draw-in-kind (Unfilled account) = []
+draw-in-kind (Filled account amount commodity) = []
+draw-in-kind (Bought key units serial) = []
+draw-in-kind (Drew draw) = draw ∷ []
+
+abbrev pub draws-among : List Entry → List Draw
+draws-among es = joined (λ e. draw-in-kind (e .kind)) es
+
 -- A reduction draws exactly its units, from matching lots alone, in the policy's order, from a lot only if every matching
--- lot that the policy puts earlier is emptied by it, and changes nothing else (`Drawn`).
-abbrev pub Kind-draws : Order → ℕ → Table → PostingKind → Type 0
-Kind-draws o a t Blank = Unit {0}
-Kind-draws o a t (Plain amount commodity) = Unit {0}
-Kind-draws o a t (Purchase units commodity cost date) = Unit {0}
-Kind-draws o a t (Reduction units commodity cost date) =
-    Drawn (matches (wanted-lots a commodity cost date)) (o .before units) units (t .lots) (table-after-reduction o (wanted-lots a commodity cost date) units t .lots) (draws-of o (wanted-lots a commodity cost date) units (t .lots))
+-- lot that the policy puts earlier is emptied by it, and changes nothing else (`Drawn`). Its entries are these draws.
+abbrev pub Kind-draws : Order → ℕ → ℕ → ℕ → Table → PostingKind → Type 0
+Kind-draws o day line a t Blank = Unit {0}
+Kind-draws o day line a t (Plain amount commodity) = Unit {0}
+Kind-draws o day line a t (Purchase units commodity cost date) = Unit {0}
+Kind-draws o day line a t (Reduction units commodity cost date) =
+    Drawn (matches (wanted-lots a commodity cost date)) (o .before units) units (t .lots) (table-after-kind o day a t (Reduction units commodity cost date) .lots) (draws-among (entries-of-kind o day line a t (Reduction units commodity cost date)))
 
 -- each reduction of a draft draws so, upon the lots that the postings before it leave
 abbrev pub Draws-by-policy : Order → ℕ → Table → List Posting → Type 0
 Draws-by-policy o day t [] = Unit {0}
-Draws-by-policy o day t (p ∷ ps) = Kind-draws o (p .account) t (p .kind) × Draws-by-policy o day (table-after-posting o day t p) ps
+Draws-by-policy o day t (p ∷ ps) = Kind-draws o day (p .line) (p .account) t (p .kind) × Draws-by-policy o day (table-after-posting o day t p) ps
 
 -- a reduction of more units than the matching lots hold
 abbrev pub Asks-too-many : ℕ → Table → PostingKind → Type 0

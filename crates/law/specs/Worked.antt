@@ -9,7 +9,7 @@ use Rattle.std.specs.declared.option.Option.{Option}
 use Rattle.std.specs.declared.option.Option.the-variants.{Some, None}
 use Rattle.std.specs.declared.result.Result.the-variants.{Ok, Err}
 use Rattle.refusal.specs.declared.Refusal.{Refusal}
-use Rattle.refusal.specs.declared.Refusal.the-variants.{NoSuchDraft, BadAccountName, GoesBack, NotBalanced, BlankCannotBeFilled, BalanceDiffers, AccountNotEmpty}
+use Rattle.refusal.specs.declared.Refusal.the-variants.{NoSuchDraft, BadAccountName, GoesBack, AccountOpenedBefore, AccountNotOpen, NotBalanced, BlankCannotBeFilled, BalanceDiffers, AccountNotEmpty}
 use Rattle.values.specs.declared.flag.Flag.the-variants.{Complete, Incomplete}
 use Rattle.lots.specs.declared.rows.Key.{Key}
 use Rattle.lots.specs.declared.rows.LotRow.{LotRow}
@@ -30,6 +30,9 @@ use Rattle.law.specs.Histories.{history-of, all-entries}
 abbrev stock : List ℕ
 stock = codes "Assets:Stock"
 
+abbrev van : List ℕ
+van = codes "Assets:Stock:Van"
+
 abbrev bank : List ℕ
 bank = codes "Assets:Bank"
 
@@ -47,6 +50,9 @@ plain number = Some (record { number = number; commodity = eur; braces = None })
 
 abbrev bought : ℕ → ℤ → Option Given-amount
 bought units cost = Some (record { number = pos units; commodity = sensor; braces = Some (record { cost = Some (record { number = cost; commodity = eur }); date = None }) })
+
+abbrev bought-on : ℕ → ℕ → ℤ → Option Given-amount
+bought-on date units cost = Some (record { number = pos units; commodity = sensor; braces = Some (record { cost = Some (record { number = cost; commodity = eur }); date = Some date }) })
 
 abbrev sold : ℕ → Option Given-amount
 sold units = Some (record { number = negℤ (pos units); commodity = sensor; braces = Some (record { cost = None; date = None }) })
@@ -91,6 +97,26 @@ afterwards =
 abbrev answered-afterwards : List Outcome
 answered-afterwards = refused GoesBack 16 ∷ Done ∷ refused BalanceDiffers 18 ∷ refused BadAccountName 19 ∷ refused AccountNotEmpty 20 ∷ refused NoSuchDraft 0 ∷ []
 
+-- A van below the stock, and a stockroom beside it. The van's sensors have a lot date of their own, before that of the stock's.
+abbrev branches : List Call
+branches =
+    names
+    ++ (opening 6 20240101 van None ∷ opening 7 20240101 (codes "Assets:Stockroom") None
+    ∷ beginning 8 20240102 Complete ∷ posting 1 9 stock (bought 500 (pos 1000)) ∷ posting 1 10 van (bought-on 20231201 300 (pos 1100)) ∷ posting 1 11 (codes "Assets:Stockroom") (bought 100 (pos 1000)) ∷ posting 1 12 bank None ∷ settling 1 10000
+    ∷ asserting 13 20240103 stock (pos 800) sensor ∷ asserting 14 20240103 van (pos 300) sensor ∷ asserting 15 20240103 (codes "Assets:Shelf") (pos 0) sensor
+    ∷ closing 16 20240103 gains ∷ beginning 17 20240104 Complete ∷ posting 2 18 gains None ∷ tearing 2 ∷ opening 19 20240104 gains None ∷ asserting 20 20240104 gains (pos 0) eur ∷ [])
+
+abbrev branched : List Outcome
+branched =
+    named
+    ++ (Opened 4 ∷ Opened 5
+    ∷ Begun 1 ∷ Done ∷ Done ∷ Done ∷ Done ∷ Settled 1
+    ∷ Done ∷ Done ∷ refused AccountNotOpen 15
+    ∷ Done ∷ Begun 2 ∷ refused AccountNotOpen 18 ∷ Done ∷ refused AccountOpenedBefore 19 ∷ Done ∷ [])
+
+abbrev sensors-in : ℕ → ℕ → ℕ → ℕ → ℕ → LotRow
+sensors-in account cost date units serial = record { key = record { account = account; commodity = 2; cost = record { number = cost; commodity = 1 }; date = date }; units = units; serial = serial }
+
 -- a purchase of 2.50 at 3.33 against a posting to the bank
 abbrev against : Option Given-amount → List Call
 against amount = names ++ (beginning 6 20240102 Complete ∷ posting 1 7 stock (bought 250 (pos 333)) ∷ posting 1 8 bank amount ∷ settling 1 10000 ∷ [])
@@ -119,6 +145,8 @@ pub record Worked-run : Type 0 where
       entry 7 (Bought (first-lot .key) 1000 1) ∷ entry 8 (Filled 2 (negℤ (pos 24500)) 1)
       ∷ entry 10 (Bought (second-lot .key) 400 2) ∷ entry 11 (Filled 2 (negℤ (pos 10400)) 1)
       ∷ entry 13 (Drew (record { lot = first-lot; units = 1000 })) ∷ entry 13 (Drew (record { lot = second-lot; units = 200 })) ∷ entry 14 (PlainAmount 2 (pos 30000) 1) ∷ entry 15 (Filled 3 (negℤ (pos 300)) 1) ∷ []
+  pub branches-are : outcomes fifo empty-ledger branches ≡ branched
+  pub branch-lots-are : state-after fifo empty-ledger branches .books .table .lots ≡ sensors-in 1 1000 20240102 500 1 ∷ sensors-in 4 1100 20231201 300 2 ∷ sensors-in 5 1000 20240102 100 3 ∷ []
   pub against-an-amount : outcomes fifo empty-ledger (against (plain (negℤ (pos 833)))) ≡ named ++ (Begun 1 ∷ Done ∷ Done ∷ refused NotBalanced 6 ∷ [])
   pub against-a-blank : outcomes fifo empty-ledger (against None) ≡ named ++ (Begun 1 ∷ Done ∷ Done ∷ refused BlankCannotBeFilled 6 ∷ [])
   pub record-is : record-after-calls (whole-lot fifo) empty-ledger invoice (replicate 100 7) ≡ invoice-record ++ (7 ∷ 7 ∷ 7 ∷ 7 ∷ [])

@@ -1,7 +1,8 @@
 // The law over runs: what any list of calls on a new ledger leaves, for every policy that keeps the laws.
-ghost use Rattle.law.specs.Laws.{Books-stand};
-ghost use Rattle.law.specs.Records.{Record-stands};
+ghost use Rattle.law.specs.Laws.{Books-stand, Books-stand-under};
+ghost use Rattle.law.specs.Records.{Record-stands, Record-stands-under};
 ghost use Rattle.law.specs.Worked.{Worked-run};
+use lots::policy::Policy;
 
 // Books balance, balances and lots are what was settled, and reductions draw by the policy.
 pub fn books_stand()
@@ -17,3 +18,11 @@ pub fn record_stands()
 pub fn worked_run()
     ensures { λ _. ⌜ Worked-run ⌝ }
 {}
+
+// Books and record stand under any implementation of a policy.
+pub fn books_stand_under<P: Policy>(policy: &P)
+    ensures books { λ _. ⌜ Books-stand-under (P·Policy .order (now (policy .entry))) ⌝ }
+    ensures recorded { λ _. ⌜ Record-stands-under (P·Policy .order (now (policy .entry))) ⌝ }
+{
+    let _ = policy;
+}
