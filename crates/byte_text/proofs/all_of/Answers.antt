@@ -6,4 +6,4 @@ use Rattle.byte_text.proofs.all_of.Goals as goal
 pub returns : goal.returns
 returns c =
     let xs = c.args.text.now in
-    ap (λ (n : ℕ). eqb n (length xs)) c.run-of.ensures.value ∙ run_all (in_class c.args.class) xs
+    ap (λ (n : ℕ). eqb n (length xs)) c.run_of.ensures.value ∙ run_all (in_class c.args.class) xs
