@@ -13,6 +13,6 @@ returns c =
     let sized : SizedHeader c.args.header = search rules in
     record {
       answer = search rules;
-      bytes = c.put-header.ensures;
-      headed = subst (Headed written c.args.header book) (sym c.put-header.ensures) (headed written c.args.header book room few sized);
+      bytes = c.put_header.ensures;
+      headed = subst (Headed written c.args.header book) (sym c.put_header.ensures) (headed written c.args.header book room few sized);
     }

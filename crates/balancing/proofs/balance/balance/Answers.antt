@@ -7,15 +7,15 @@ use Rattle.balancing.specs.Summary.{summary, balanced}
 use Rattle.balancing.proofs.Summaries.{empty_is, blank_there, entries_are}
 use Rattle.balancing.proofs.balance.balance.Goals as goal
 
-pub returns-then-has-blank : goal.returns-then-has-blank
-returns-then-has-blank c =
+pub returns-then-has_blank : goal.returns-then-has_blank
+returns-then-has_blank c =
     let ps = c.args.postings.now in
     let own = c.args.own in
     let es = entries_in c.args.entries.now in
     let fs = entries_in c.fill.new.entries in
-    let u = c.unbalanced-in-unbalanced.result in
-    let some : is_empty ps ≡ false = sym (c.if-is-empty.ensures ∙ empty_is ps) in
-    let found : u ≡ summary (weight_sum es) (unbalanced_in es) = c.unbalanced-in-unbalanced.ensures ∙ ap (λ (xs : List Entry). summary (weight_sum xs) (unbalanced_in xs)) c.as-slice.ensures.listed in
-    let blank : has_blank es ≡ true = sym (c.if-has-blank.ensures ∙ ap has_blank c.as-slice-2.ensures.listed) in
+    let u = c.unbalanced_in-unbalanced.result in
+    let some : is_empty ps ≡ false = sym (c.if-is_empty.ensures ∙ empty_is ps) in
+    let found : u ≡ summary (weight_sum es) (unbalanced_in es) = c.unbalanced_in-unbalanced.ensures ∙ ap (λ (xs : List Entry). summary (weight_sum xs) (unbalanced_in xs)) c.as_slice.ensures.listed in
+    let blank : has_blank es ≡ true = sym (c.if-has_blank.ensures ∙ ap has_blank c.as_slice-2.ensures.listed) in
     let d : map_ok (λ (_ : Unit {0}). fs) c.fill.result ≡ balanced ps own es = c.fill.ensures.defined ∙ blank_there ps own es some u found blank in
     record { defined = d; entries = entries_are ps own es fs c.fill.result d c.fill.ensures.refused }

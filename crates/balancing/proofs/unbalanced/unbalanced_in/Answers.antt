@@ -10,9 +10,9 @@ pub loop-before-preserved : goal.loop-before-preserved
 loop-before-preserved c =
     let es = c.args.entries.now in
     let n = c.loop-before.before in
-    let fits : SFits w128 c.weight-sum.result = search rules in
-    let is = c.and-commodity-found.ensures ∙ ap (λ (z : ℤ). and_commodity (n + 1) z c.loop-before.found) (to_z-of_z w128 c.weight-sum.result fits ∙ c.weight-sum.ensures) in
-    summary_more (weight_sum es) n c.loop-before.found c.and-commodity-found.result c.loop-before.invariant is
+    let fits : SFits w128 c.weight_sum.result = search rules in
+    let is = c.and_commodity-found.ensures ∙ ap (λ (z : ℤ). and_commodity (n + 1) z c.loop-before.found) (to_z-of_z w128 c.weight_sum.result fits ∙ c.weight_sum.ensures) in
+    summary_more (weight_sum es) n c.loop-before.found c.and_commodity-found.result c.loop-before.invariant is
 
 pub returns : goal.returns
 unfolding unbalanced_in

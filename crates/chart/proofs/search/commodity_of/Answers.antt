@@ -4,14 +4,14 @@ use Rattle.chart.specs.Tests.{named}
 use Rattle.chart.proofs.Firsts.{first_here, first_later, first_none}
 use Rattle.chart.proofs.search.commodity_of.Goals as goal
 
-pub returns-then-has-name : goal.returns-then-has-name
-returns-then-has-name c =
-    sym (first_here name_bytes (named c.args.name.now) (c.loop-i.i + 1) c.args.names.now c.loop-i.i _ c.loop-i-test.true (sym c.if-has-name.ensures))
+pub returns-then-has_name : goal.returns-then-has_name
+returns-then-has_name c =
+    sym (first_here name_bytes (named c.args.name.now) (c.loop-i.i + 1) c.args.names.now c.loop-i.i _ c.loop-i-test.true (sym c.if-has_name.ensures))
     ∙ c.loop-i.invariant
 
 pub loop-i-preserved : goal.loop-i-preserved
 loop-i-preserved c =
-    sym (first_later name_bytes (named c.args.name.now) (c.loop-i.i + 1) c.args.names.now c.loop-i.i _ c.loop-i-test.true (sym c.if-has-name.ensures))
+    sym (first_later name_bytes (named c.args.name.now) (c.loop-i.i + 1) c.args.names.now c.loop-i.i _ c.loop-i-test.true (sym c.if-has_name.ensures))
     ∙ c.loop-i.invariant
 
 pub returns : goal.returns

@@ -4,10 +4,10 @@ use Rattle.fields.specs.Decimal.{decimal_after}
 use Rattle.fields.proofs.Decimals.{digit_step, digit_stop, room, room_more}
 use Rattle.fields.proofs.digits.read_digits.Goals as goal
 
-pub returns-then-not-is-ascii-digit : goal.returns-then-not-is-ascii-digit
-returns-then-not-is-ascii-digit c = record {
+pub returns-then-not-is_ascii_digit : goal.returns-then-not-is_ascii_digit
+returns-then-not-is_ascii_digit c = record {
   value =
-      sym (digit_stop c.loop-b.n _ _ c.loop-b-test.true (sym c.if-not-is-ascii-digit.ensures.value)) ∙ c.loop-b.invariant.0;
+      sym (digit_stop c.loop-b.n _ _ c.loop-b-test.true (sym c.if-not-is_ascii_digit.ensures.value)) ∙ c.loop-b.invariant.0;
   bound = tt;
 }
 
@@ -15,12 +15,12 @@ pub overflow-mul-n : goal.overflow-mul-n
 overflow-mul-n c = let r = room _ _ c.loop-b.invariant.1 (omega arith) in search rules
 
 pub overflow-add-n : goal.overflow-add-n
-overflow-add-n c = let r = room _ _ c.loop-b.invariant.1 (omega arith) in let k = c.if-not-is-ascii-digit.ensures.cases in search rules
+overflow-add-n c = let r = room _ _ c.loop-b.invariant.1 (omega arith) in let k = c.if-not-is_ascii_digit.ensures.cases in search rules
 
 pub loop-b-preserved : goal.loop-b-preserved
 loop-b-preserved c =
-    let k = c.if-not-is-ascii-digit.ensures.cases in (
-      sym (digit_step c.loop-b.n _ _ c.loop-b-test.true (sym c.if-not-is-ascii-digit.ensures.value)) ∙ c.loop-b.invariant.0,
+    let k = c.if-not-is_ascii_digit.ensures.cases in (
+      sym (digit_step c.loop-b.n _ _ c.loop-b-test.true (sym c.if-not-is_ascii_digit.ensures.value)) ∙ c.loop-b.invariant.0,
       room_more _ _ _ c.loop-b.invariant.1 (omega arith),
     )
 

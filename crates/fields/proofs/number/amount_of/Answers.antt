@@ -7,5 +7,5 @@ use Rattle.fields.proofs.number.amount_of.Goals as goal
 
 pub returns : goal.returns
 returns c =
-    ap (map_ok (λ (a : Amount). a.hundredths)) c.ok-or.ensures.value
+    ap (map_ok (λ (a : Amount). a.hundredths)) c.ok_or.ensures.value
     ∙ amount_made c.new.result c.args.hundredths _ c.requires (simp (to_z-of_z w32 c.args.hundredths c.ranges.hundredths) at c.new.ensures)

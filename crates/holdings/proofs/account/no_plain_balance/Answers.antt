@@ -11,7 +11,7 @@ loop-commodity-preserved c =
     let a = c.args.account in
     let k = c.loop-commodity.commodity in
     let next : k + 1 ≡ suc k = omega arith in
-    let zero_here = sym (c.if-not-is-zero.ensures ∙ ap (λ (n : ℕ). is_zero (plain_balance b a n)) next) in
+    let zero_here = sym (c.if-not-is_zero.ensures ∙ ap (λ (n : ℕ). is_zero (plain_balance b a n)) next) in
     ap (no_plain_balance b a) next ∙ and_from (is_zero (plain_balance b a (suc k))) (no_plain_balance b a k) zero_here c.loop-commodity.invariant
 
 pub returns : goal.returns

@@ -10,15 +10,15 @@ pub overflow-cast-result : goal.overflow-cast-result
 overflow-cast-result c =
     let M = matches (wanted_lots c.args.account c.args.commodity None None) in
     let few = kept_few M (table_of c.args.lots.now) c.lots.ensures.kept in
-    let sum = c.units-matching.ensures ∙ ap (units_matching M) c.lots.ensures.listed in
+    let sum = c.units_matching.ensures ∙ ap (units_matching M) c.lots.ensures.listed in
     search rules
 
 pub returns : goal.returns
 returns c =
     let M = matches (wanted_lots c.args.account c.args.commodity None None) in
     let few = kept_few M (table_of c.args.lots.now) c.lots.ensures.kept in
-    let sum = c.units-matching.ensures ∙ ap (units_matching M) c.lots.ensures.listed in
-    let plain = to_z_pos w64 c.units-matching.result (omega arith) in
+    let sum = c.units_matching.ensures ∙ ap (units_matching M) c.lots.ensures.listed in
+    let plain = to_z_pos w64 c.units_matching.result (omega arith) in
     record {
       value = plain ∙ ap pos sum;
       small = rw plain (omega arith);

@@ -18,14 +18,14 @@ loop-i-preserved c =
     let b = books_of c.args.balances.now c.args.lots.now in
     let i = c.loop-i.i in
     let s = c.loop-i.sum in
-    let z = c.holding-if-under-sum.result in
+    let z = c.holding_if_under-sum.result in
     let left : ℕ → List kept.Account → ℤ = λ n accounts. holdings_under b c.args.name.now c.args.commodity n (map account_of accounts) in
     let rest = left (i + 1 + 1) (drop (i + 1) c.args.accounts.now) in
-    let step : left (i + 1) (drop i c.args.accounts.now) ≡ z +ℤ rest = at_drop_more (left (i + 1)) c.args.accounts.now i no_kept c.loop-i-test.true ∙ ap (λ (y : ℤ). y +ℤ rest) (sym c.holding-if-under-sum.ensures.value) in
+    let step : left (i + 1) (drop i c.args.accounts.now) ≡ z +ℤ rest = at_drop_more (left (i + 1)) c.args.accounts.now i no_kept c.loop-i-test.true ∙ ap (λ (y : ℤ). y +ℤ rest) (sym c.holding_if_under-sum.ensures.value) in
     let total = left 1 c.args.accounts.now in
     let inv = subst (λ (y : ℤ). (y +ℤ left (i + 1) (drop i c.args.accounts.now) ≡ total) × (nat_abs y ≤ largest_holding * i)) c.loop-i.sum-is c.loop-i.invariant in
     let low = inv.1 in
-    let one = c.holding-if-under-sum.ensures.small in
+    let one = c.holding_if_under-sum.ensures.small in
     let fz : SFits w64 z = search rules in
     let f : SFits w64 (s +ℤ z) = search rules in
     rw (c.loop-i.sum-is, to_z-of_z w64 z fz, to_z-of_z w64 (s +ℤ z) f) (+ℤ_assoc s z rest ∙ sym (ap (λ (y : ℤ). s +ℤ y) step) ∙ inv.0, omega (arith, ints))

@@ -30,6 +30,6 @@ returns-in-Err g c =
       defined =
           refused (g.P.Policy.order c.args.self.now.policy) s (asserting c.args.source c.args.date c.args.account.now c.args.amount c.args.commodity.now) c.args.source (asserting_tests s c.args.date c.args.account.now c.args.amount c.args.commodity.now) refl _ _ _
           (c.in-Err.ensures ∙ ap (λ (z : ℤ). unless (first_met (asserting_tests s c.args.date c.args.account.now z c.args.commodity.now)) (tt {0})) same)
-          c.fault-at.ensures;
+          c.fault_at.ensures;
       policy = refl;
     }

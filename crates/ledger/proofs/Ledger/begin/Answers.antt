@@ -12,15 +12,15 @@ returns-in-Ok g c =
     record {
       defined =
           accepted (g.P.Policy.order c.args.self.now.policy) s (beginning c.args.source c.args.date c.args.flag) c.args.source (beginning_tests s c.args.date) refl _ _ c.in-Ok.ensures _ _
-          (ap Begun c.start-draft.ensures.slip)
-          c.start-draft.ensures.drafted;
-      policy = c.start-draft.ensures.policy;
+          (ap Begun c.start_draft.ensures.slip)
+          c.start_draft.ensures.drafted;
+      policy = c.start_draft.ensures.policy;
     }
 
 pub returns-in-Err : goal.returns-in-Err
 returns-in-Err g c =
     let s = view c.args.self.now in
     record {
-      defined = refused (g.P.Policy.order c.args.self.now.policy) s (beginning c.args.source c.args.date c.args.flag) c.args.source (beginning_tests s c.args.date) refl _ _ _ c.in-Err.ensures c.fault-at.ensures;
+      defined = refused (g.P.Policy.order c.args.self.now.policy) s (beginning c.args.source c.args.date c.args.flag) c.args.source (beginning_tests s c.args.date) refl _ _ _ c.in-Err.ensures c.fault_at.ensures;
       policy = refl;
     }

@@ -14,14 +14,14 @@ returns-in-Ok g c =
       defined =
           accepted (g.P.Policy.order c.args.self.now.policy) s (closing c.args.source c.args.date c.args.account.now) c.args.source (closing_tests s c.args.date c.args.account.now) refl _ _ c.in-Ok.ensures _ _
           refl
-          (c.close-account.ensures.named ∙ ap (λ (number : ℕ). with_names s (with_account_closed s.names number) c.args.date 3) (finds (first_met (closing_tests s c.args.date c.args.account.now)) _ _ c.in-Ok.ensures));
-      policy = c.close-account.ensures.policy;
+          (c.close_account.ensures.named ∙ ap (λ (number : ℕ). with_names s (with_account_closed s.names number) c.args.date 3) (finds (first_met (closing_tests s c.args.date c.args.account.now)) _ _ c.in-Ok.ensures));
+      policy = c.close_account.ensures.policy;
     }
 
 pub returns-in-Err : goal.returns-in-Err
 returns-in-Err g c =
     let s = view c.args.self.now in
     record {
-      defined = refused (g.P.Policy.order c.args.self.now.policy) s (closing c.args.source c.args.date c.args.account.now) c.args.source (closing_tests s c.args.date c.args.account.now) refl _ _ _ c.in-Err.ensures c.fault-at.ensures;
+      defined = refused (g.P.Policy.order c.args.self.now.policy) s (closing c.args.source c.args.date c.args.account.now) c.args.source (closing_tests s c.args.date c.args.account.now) refl _ _ _ c.in-Err.ensures c.fault_at.ensures;
       policy = refl;
     }

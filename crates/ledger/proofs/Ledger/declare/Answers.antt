@@ -12,15 +12,15 @@ returns-in-Ok g c =
     record {
       defined =
           accepted (g.P.Policy.order c.args.self.now.policy) s (declaring c.args.source c.args.date c.args.name.now) c.args.source (declaring_tests s c.args.date c.args.name.now) refl _ _ c.in-Ok.ensures.checked _ _
-          (ap Declared c.add-commodity.ensures.number)
-          c.add-commodity.ensures.named;
-      policy = c.add-commodity.ensures.policy;
+          (ap Declared c.add_commodity.ensures.number)
+          c.add_commodity.ensures.named;
+      policy = c.add_commodity.ensures.policy;
     }
 
 pub returns-in-Err : goal.returns-in-Err
 returns-in-Err g c =
     let s = view c.args.self.now in
     record {
-      defined = refused (g.P.Policy.order c.args.self.now.policy) s (declaring c.args.source c.args.date c.args.name.now) c.args.source (declaring_tests s c.args.date c.args.name.now) refl _ _ _ c.in-Err.ensures.checked c.fault-at.ensures;
+      defined = refused (g.P.Policy.order c.args.self.now.policy) s (declaring c.args.source c.args.date c.args.name.now) c.args.source (declaring_tests s c.args.date c.args.name.now) refl _ _ _ c.in-Err.ensures.checked c.fault_at.ensures;
       policy = refl;
     }

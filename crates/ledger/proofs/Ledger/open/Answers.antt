@@ -23,15 +23,15 @@ returns-in-Ok g c =
     record {
       defined =
           accepted (g.P.Policy.order c.args.self.now.policy) s (opening c.args.source c.args.date c.args.name.now (option_map (λ n. n.now) c.args.own)) c.args.source (opening_tests s c.args.date c.args.name.now (option_map (λ n. n.now) c.args.own)) refl _ _ c.in-Ok.ensures.checked _ _
-          (ap Opened c.add-account.ensures.number)
-          (c.add-account.ensures.named ∙ ap (λ (own : Option ℕ). with_names s (account_added c.args.name.now own s.names) c.args.date 0) (finds (first_met (opening_tests s c.args.date c.args.name.now (option_map (λ n. n.now) c.args.own))) _ _ c.in-Ok.ensures.checked ∙ named s.names c.args.own));
-      policy = c.add-account.ensures.policy;
+          (ap Opened c.add_account.ensures.number)
+          (c.add_account.ensures.named ∙ ap (λ (own : Option ℕ). with_names s (account_added c.args.name.now own s.names) c.args.date 0) (finds (first_met (opening_tests s c.args.date c.args.name.now (option_map (λ n. n.now) c.args.own))) _ _ c.in-Ok.ensures.checked ∙ named s.names c.args.own));
+      policy = c.add_account.ensures.policy;
     }
 
 pub returns-in-Err : goal.returns-in-Err
 returns-in-Err g c =
     let s = view c.args.self.now in
     record {
-      defined = refused (g.P.Policy.order c.args.self.now.policy) s (opening c.args.source c.args.date c.args.name.now (option_map (λ n. n.now) c.args.own)) c.args.source (opening_tests s c.args.date c.args.name.now (option_map (λ n. n.now) c.args.own)) refl _ _ _ c.in-Err.ensures.checked c.fault-at.ensures;
+      defined = refused (g.P.Policy.order c.args.self.now.policy) s (opening c.args.source c.args.date c.args.name.now (option_map (λ n. n.now) c.args.own)) c.args.source (opening_tests s c.args.date c.args.name.now (option_map (λ n. n.now) c.args.own)) refl _ _ _ c.in-Err.ensures.checked c.fault_at.ensures;
       policy = refl;
     }

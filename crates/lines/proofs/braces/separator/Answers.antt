@@ -2,15 +2,15 @@ use Rattle.std.proofs.Common.{sym, arith}
 use Rattle.lines.proofs.Separators.{separator_here, separator_more, separator_end}
 use Rattle.lines.proofs.braces.separator.Goals as goal
 
-pub returns-then-is-separator : goal.returns-then-is-separator
-returns-then-is-separator c =
+pub returns-then-is_separator : goal.returns-then-is_separator
+returns-then-is_separator c =
     record {
-      value = omega (arith, separator_here _ _ c.loop-i-test.true (sym c.if-is-separator.ensures), c.loop-i.invariant);
+      value = omega (arith, separator_here _ _ c.loop-i-test.true (sym c.if-is_separator.ensures), c.loop-i.invariant);
       within = omega arith;
     }
 
 pub loop-i-preserved : goal.loop-i-preserved
-loop-i-preserved c = omega (arith, separator_more _ _ c.loop-i-test.true (sym c.if-is-separator.ensures), c.loop-i.invariant)
+loop-i-preserved c = omega (arith, separator_more _ _ c.loop-i-test.true (sym c.if-is_separator.ensures), c.loop-i.invariant)
 
 pub returns : goal.returns
 returns c =

@@ -9,7 +9,7 @@ unfolding field_text field_end
 returns c =
     let line = c.args.line.now in
     let start = field_start line c.args.from in
-    let place : c.rest-from-rest.result.place ≡ start + 1 = ap (λ (s : Spot). s.place) c.rest-from-rest.ensures.value in
-    let text : c.rest-from-rest.result.text.now ≡ drop start line = ap (λ (s : Spot). s.text) c.rest-from-rest.ensures.value in
-    let n : c.run-of-n.result ≡ before 32 (drop start line) = cc in
+    let place : c.rest_from-rest.result.place ≡ start + 1 = ap (λ (s : Spot). s.place) c.rest_from-rest.ensures.value in
+    let text : c.rest_from-rest.result.text.now ≡ drop start line = ap (λ (s : Spot). s.text) c.rest_from-rest.ensures.value in
+    let n : c.run_of-n.result ≡ before 32 (drop start line) = cc in
     record { field = cc; end = omega (arith, place, n); within = omega arith; short = omega arith }

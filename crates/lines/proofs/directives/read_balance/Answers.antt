@@ -2,21 +2,21 @@ use Rattle.std.proofs.Common.{rules}
 use Rattle.lines.specs.Directives.{balance_from}
 use Rattle.lines.proofs.directives.read_balance.Goals as goal
 
-pub returns-in-err-account : goal.returns-in-err-account
+pub returns-in_err-account : goal.returns-in_err-account
 unfolding balance_from
-returns-in-err-account c = search rules
+returns-in_err-account c = search rules
 
-pub returns-in-err-amount : goal.returns-in-err-amount
+pub returns-in_err-amount : goal.returns-in_err-amount
 unfolding balance_from
-returns-in-err-amount c = search rules
+returns-in_err-amount c = search rules
 
-pub returns-in-err-commodity : goal.returns-in-err-commodity
+pub returns-in_err-commodity : goal.returns-in_err-commodity
 unfolding balance_from
-returns-in-err-commodity c = search rules
+returns-in_err-commodity c = search rules
 
-pub returns-in-err-read-end : goal.returns-in-err-read-end
+pub returns-in_err-read_end : goal.returns-in_err-read_end
 unfolding balance_from
-returns-in-err-read-end c = search rules
+returns-in_err-read_end c = search rules
 
 pub returns : goal.returns
 unfolding balance_from

@@ -2,13 +2,13 @@ use Rattle.std.proofs.Common.{rules}
 use Rattle.lines.specs.Directives.{commodity_from}
 use Rattle.lines.proofs.directives.read_commodity.Goals as goal
 
-pub returns-in-err-name : goal.returns-in-err-name
+pub returns-in_err-name : goal.returns-in_err-name
 unfolding commodity_from
-returns-in-err-name c = search rules
+returns-in_err-name c = search rules
 
-pub returns-in-err-read-end : goal.returns-in-err-read-end
+pub returns-in_err-read_end : goal.returns-in_err-read_end
 unfolding commodity_from
-returns-in-err-read-end c = search rules
+returns-in_err-read_end c = search rules
 
 pub returns : goal.returns
 unfolding commodity_from

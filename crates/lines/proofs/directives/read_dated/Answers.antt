@@ -2,9 +2,9 @@ use Rattle.std.proofs.Common.{rules}
 use Rattle.lines.specs.Directives.{dated_line}
 use Rattle.lines.proofs.directives.read_dated.Goals as goal
 
-pub returns-in-err-date : goal.returns-in-err-date
+pub returns-in_err-date : goal.returns-in_err-date
 unfolding dated_line
-returns-in-err-date c = search rules
+returns-in_err-date c = search rules
 
 pub returns : goal.returns
 unfolding dated_line

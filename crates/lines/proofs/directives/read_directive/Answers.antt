@@ -2,9 +2,9 @@ use Rattle.std.proofs.Common.{rules}
 use Rattle.lines.specs.Directives.{directive_line}
 use Rattle.lines.proofs.directives.read_directive.Goals as goal
 
-pub returns-then-is-ascii-digit : goal.returns-then-is-ascii-digit
+pub returns-then-is_ascii_digit : goal.returns-then-is_ascii_digit
 unfolding directive_line
-returns-then-is-ascii-digit c = search rules
+returns-then-is_ascii_digit c = search rules
 
 pub returns-then-same : goal.returns-then-same
 unfolding directive_line

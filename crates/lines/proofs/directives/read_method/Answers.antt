@@ -2,17 +2,17 @@ use Rattle.std.proofs.Common.{rules}
 use Rattle.lines.specs.Directives.{method_from}
 use Rattle.lines.proofs.directives.read_method.Goals as goal
 
-pub returns-in-err-value : goal.returns-in-err-value
+pub returns-in_err-value : goal.returns-in_err-value
 unfolding method_from
-returns-in-err-value c = search rules
+returns-in_err-value c = search rules
 
 pub returns-in-default : goal.returns-in-default
 unfolding method_from
 returns-in-default c = search rules
 
-pub returns-in-err-read-end : goal.returns-in-err-read-end
+pub returns-in_err-read_end : goal.returns-in_err-read_end
 unfolding method_from
-returns-in-err-read-end c = search rules
+returns-in_err-read_end c = search rules
 
 pub returns : goal.returns
 unfolding method_from

@@ -6,13 +6,13 @@ pub returns-then-first-eq0 : goal.returns-then-first-eq0
 unfolding own_from
 returns-then-first-eq0 c = search rules
 
-pub returns-in-err-own : goal.returns-in-err-own
+pub returns-in_err-own : goal.returns-in_err-own
 unfolding own_from
-returns-in-err-own c = search rules
+returns-in_err-own c = search rules
 
-pub returns-in-err-read-end : goal.returns-in-err-read-end
+pub returns-in_err-read_end : goal.returns-in_err-read_end
 unfolding own_from
-returns-in-err-read-end c = search rules
+returns-in_err-read_end c = search rules
 
 pub returns : goal.returns
 unfolding own_from

@@ -2,9 +2,9 @@ use Rattle.std.proofs.Common.{rules}
 use Rattle.lines.specs.Directives.{quoted_from}
 use Rattle.lines.proofs.directives.read_text.Goals as goal
 
-pub returns-in-err-text : goal.returns-in-err-text
+pub returns-in_err-text : goal.returns-in_err-text
 unfolding quoted_from
-returns-in-err-text c = search rules
+returns-in_err-text c = search rules
 
 pub returns : goal.returns
 unfolding quoted_from

@@ -2,13 +2,13 @@ use Rattle.std.proofs.Common.{rules}
 use Rattle.lines.specs.Directives.{transaction_from}
 use Rattle.lines.proofs.directives.read_transaction.Goals as goal
 
-pub returns-in-err-quoted : goal.returns-in-err-quoted
+pub returns-in_err-quoted : goal.returns-in_err-quoted
 unfolding transaction_from
-returns-in-err-quoted c = search rules
+returns-in_err-quoted c = search rules
 
-pub returns-in-err-read-end : goal.returns-in-err-read-end
+pub returns-in_err-read_end : goal.returns-in_err-read_end
 unfolding transaction_from
-returns-in-err-read-end c = search rules
+returns-in_err-read_end c = search rules
 
 pub returns : goal.returns
 unfolding transaction_from

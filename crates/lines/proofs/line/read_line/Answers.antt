@@ -3,5 +3,5 @@ use Rattle.lines.proofs.line.read_line.Goals as goal
 
 pub returns : goal.returns
 returns c =
-    let e = c.line-said.ensures in
+    let e = c.line_said.ensures in
     record { value = e; exactly = reads_exactly _ _ _ e }

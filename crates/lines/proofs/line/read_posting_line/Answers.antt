@@ -6,9 +6,9 @@ pub returns-in-Some : goal.returns-in-Some
 unfolding posting_line
 returns-in-Some c = search rules
 
-pub returns-in-err-posting : goal.returns-in-err-posting
+pub returns-in_err-posting : goal.returns-in_err-posting
 unfolding posting_line
-returns-in-err-posting c = search rules
+returns-in_err-posting c = search rules
 
 pub returns : goal.returns
 unfolding posting_line

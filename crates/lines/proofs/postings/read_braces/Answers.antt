@@ -6,17 +6,17 @@ pub returns-then-brace-n : goal.returns-then-brace-n
 unfolding braces_from
 returns-then-brace-n c = search rules
 
-pub returns-then-not-ends-field : goal.returns-then-not-ends-field
+pub returns-then-not-ends_field : goal.returns-then-not-ends_field
 unfolding braces_from
-returns-then-not-ends-field c = search rules
+returns-then-not-ends_field c = search rules
 
-pub returns-in-err-braces : goal.returns-in-err-braces
+pub returns-in_err-braces : goal.returns-in_err-braces
 unfolding braces_from
-returns-in-err-braces c = search rules
+returns-in_err-braces c = search rules
 
-pub returns-in-err-read-end : goal.returns-in-err-read-end
+pub returns-in_err-read_end : goal.returns-in_err-read_end
 unfolding braces_from
-returns-in-err-read-end c = search rules
+returns-in_err-read_end c = search rules
 
 pub returns : goal.returns
 unfolding braces_from

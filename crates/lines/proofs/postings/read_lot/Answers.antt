@@ -6,9 +6,9 @@ pub returns-then-first-eq0 : goal.returns-then-first-eq0
 unfolding braces_at
 returns-then-first-eq0 c = search rules
 
-pub returns-then-byte-at-ne123 : goal.returns-then-byte-at-ne123
+pub returns-then-byte_at-ne123 : goal.returns-then-byte_at-ne123
 unfolding braces_at
-returns-then-byte-at-ne123 c = search rules
+returns-then-byte_at-ne123 c = search rules
 
 pub returns : goal.returns
 unfolding braces_at

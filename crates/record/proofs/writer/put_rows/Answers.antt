@@ -7,6 +7,6 @@ returns c =
     let book = c.args.book.now in
     let at = c.args.at in
     record {
-      bytes = rows_written at (length book - at) c.args.rows.now book c.write-rows.new.out (take (length book - at) (drop at book)) refl refl c.write-rows.ensures.bytes;
-      sized = c.write-rows.ensures.sized;
+      bytes = rows_written at (length book - at) c.args.rows.now book c.write_rows.new.out (take (length book - at) (drop at book)) refl refl c.write_rows.ensures.bytes;
+      sized = c.write_rows.ensures.sized;
     }

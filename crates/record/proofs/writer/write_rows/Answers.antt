@@ -5,8 +5,8 @@ use Rattle.record.proofs.writer.write_rows.Goals as goal
 
 pub loop-i-preserved : goal.loop-i-preserved
 loop-i-preserved c = (
-  rows_more c.args.rows.now c.loop-i.i _ c.args.out.now c.loop-i.out _ c.loop-i-test.true (omega arith) c.write-row.ensures.bytes c.loop-i.invariant.0,
-  below_more _ _ c.loop-i.invariant.1 c.write-row.ensures.sized,
+  rows_more c.args.rows.now c.loop-i.i _ c.args.out.now c.loop-i.out _ c.loop-i-test.true (omega arith) c.write_row.ensures.bytes c.loop-i.invariant.0,
+  below_more _ _ c.loop-i.invariant.1 c.write_row.ensures.sized,
 )
 
 pub returns : goal.returns

@@ -4,16 +4,16 @@ use Rattle.values.specs.Names.{is_part}
 use Rattle.values.proofs.Parts.{parts_stop, parts_none, parts_end, parts_more}
 use Rattle.values.proofs.names.are_parts.Goals as goal
 
-pub returns-then-not-is-name-part : goal.returns-then-not-is-name-part
-returns-then-not-is-name-part c =
-    let t = c.if-not-is-name-part.ensures in
+pub returns-then-not-is_name_part : goal.returns-then-not-is_name_part
+returns-then-not-is_name_part c =
+    let t = c.if-not-is_name_part.ensures in
     let xs = c.loop.rest.now in
     let p : is_part (take (before 58 xs) xs) ≡ false = cc in
     sym (parts_stop (c.args.most - c.loop.counter) xs p) ∙ c.loop.invariant
 
 pub returns-then-n-rest : goal.returns-then-n-rest
 returns-then-n-rest c =
-    let t = c.if-not-is-name-part.ensures in
+    let t = c.if-not-is_name_part.ensures in
     let xs = c.loop.rest.now in
     let p : is_part (take (before 58 xs) xs) ≡ true = cc in
     let e : before 58 xs ≡ length xs = cc in
@@ -21,7 +21,7 @@ returns-then-n-rest c =
 
 pub loop-preserved : goal.loop-preserved
 loop-preserved c =
-    let t = c.if-not-is-name-part.ensures in
+    let t = c.if-not-is_name_part.ensures in
     let xs = c.loop.rest.now in
     let p : is_part (take (before 58 xs) xs) ≡ true = cc in
     let h : before 58 xs < length xs = omega arith in

@@ -9,10 +9,10 @@ returns-then-n-text c =
     let e : before 58 c.args.text.now ≡ length c.args.text.now = cc in
     sym (account_alone c.args.text.now e)
 
-pub returns-then-not-is-root-name : goal.returns-then-not-is-root-name
-returns-then-not-is-root-name c =
+pub returns-then-not-is_root_name : goal.returns-then-not-is_root_name
+returns-then-not-is_root_name c =
     let xs = c.args.text.now in
-    let t = c.if-not-is-root-name.ensures in
+    let t = c.if-not-is_root_name.ensures in
     let h : before 58 xs < length xs = omega arith in
     let p : is_root (take (before 58 xs) xs) ≡ false = cc in
     sym (account_rootless xs h p)
@@ -20,7 +20,7 @@ returns-then-not-is-root-name c =
 pub returns : goal.returns
 returns c =
     let xs = c.args.text.now in
-    let t = c.if-not-is-root-name.ensures in
+    let t = c.if-not-is_root_name.ensures in
     let h : before 58 xs < length xs = omega arith in
     let p : is_root (take (before 58 xs) xs) ≡ true = cc in
     let a : c.after.result.now ≡ drop (before 58 xs + 1) xs = cc in

@@ -4,5 +4,5 @@ use Rattle.values.proofs.names.is_account_name.Goals as goal
 
 pub returns : goal.returns
 returns c =
-    let e = c.fits-account.ensures in
+    let e = c.fits_account.ensures in
     record { value = e; exactly = Decides-at _ _ e (account_decides _) }

@@ -4,5 +4,5 @@ use Rattle.values.proofs.names.is_commodity_name.Goals as goal
 
 pub returns : goal.returns
 returns c =
-    let e = c.fits-commodity.ensures in
+    let e = c.fits_commodity.ensures in
     record { value = e; exactly = Decides-at _ _ e (commodity_decides _) }

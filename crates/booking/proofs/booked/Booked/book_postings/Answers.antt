@@ -8,8 +8,8 @@ use Rattle.booking.proofs.Passing.{pass_at}
 use Rattle.booking.proofs.Drafts.{no_posting, booked_more, booked_refused, booked_all}
 use Rattle.booking.proofs.booked.Booked.book_postings.Goals as goal
 
-pub book-posting-requires : goal.book-posting-requires
-book-posting-requires g c =
+pub book_posting-requires : goal.book_posting-requires
+book_posting-requires g c =
     let l = c.loop-posting in
     let room = l.invariant.1 in
     let serials = l.invariant.2 in
@@ -22,17 +22,17 @@ book-posting-requires g c =
       serials = omega arith;
     }
 
-pub returns-in-err-book-posting : goal.returns-in-err-book-posting
-returns-in-err-book-posting g c =
+pub returns-in_err-book_posting : goal.returns-in_err-book_posting
+returns-in_err-book_posting g c =
     let o = g.P.Policy.order c.args.policy.now in
     let l = c.loop-posting in
     let b = booked_of l.self in
     let ps = c.args.postings.now in
     let p = err_from_is_err_and c.from-residual.result c.from-residual.ensures.1 in
-    let grown = c.in-err-book-posting.ensures.grows.serials in
+    let grown = c.in_err-book_posting.ensures.grows.serials in
     let was = l.invariant.2 in
     record {
-      defined = ap (map_ok _) p.1 ∙ ap Err p.2 ∙ booked_refused o c.args.day b ps l.posting-index c.loop-posting-test.true (book_postings o c.args.day (booked_of c.args.self.now) ps) l.invariant.0 c.in-err-book-posting.field-0.0 c.in-err-book-posting.ensures.defined;
+      defined = ap (map_ok _) p.1 ∙ ap Err p.2 ∙ booked_refused o c.args.day b ps l.posting-index c.loop-posting-test.true (book_postings o c.args.day (booked_of c.args.self.now) ps) l.invariant.0 c.in_err-book_posting.field-0.0 c.in_err-book_posting.ensures.defined;
       serials = omega arith;
     }
 
@@ -42,10 +42,10 @@ loop-posting-preserved g c =
     let l = c.loop-posting in
     let b = booked_of l.self in
     let ps = c.args.postings.now in
-    let grown = c.in-ok-book-posting.ensures.grows in
+    let grown = c.in_ok-book_posting.ensures.grows in
     let room = l.invariant.1 in
     let was = l.invariant.2 in (
-      booked_more o c.args.day b ps l.posting-index c.loop-posting-test.true (book_postings o c.args.day (booked_of c.args.self.now) ps) l.invariant.0 (booked_of c.book-posting.new.self) c.in-ok-book-posting.ensures.defined,
+      booked_more o c.args.day b ps l.posting-index c.loop-posting-test.true (book_postings o c.args.day (booked_of c.args.self.now) ps) l.invariant.0 (booked_of c.book_posting.new.self) c.in_ok-book_posting.ensures.defined,
       omega arith,
       omega arith,
     )

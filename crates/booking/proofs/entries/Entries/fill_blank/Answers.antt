@@ -11,27 +11,27 @@ use Rattle.booking.proofs.Passing.{pass_at, pass_set}
 use Rattle.booking.proofs.Blanks.{no_entry, fill_at, fill_none, filled_entry, filled_in_range}
 use Rattle.booking.proofs.entries.Entries.fill_blank.Goals as goal
 
-pub invariant-of-self : goal.invariant-of-self
-invariant-of-self c =
+pub invariant_of-self : goal.invariant_of-self
+invariant_of-self c =
     let xs = items c.args.self.now.list in
-    let es = c.as-slice-entries.result.now in
-    let i = c.place-of-blank-place.result in
+    let es = c.as_slice-entries.result.now in
+    let i = c.place_of_blank-place.result in
     let old = get_or es i no_entry in
-    let good = pass_at entry_in_range es i no_entry c.if-place-entries.true c.as-slice-entries.ensures.ranges in
-    let new = subst (λ (k : EntryKind). entry_kind_in_range k ≡ true) (sym c.filled-with.ensures) (filled_in_range _ _ old.kind good) in
-    (ap (list_all entry_in_range) c.put.ensures ∙ pass_set entry_in_range xs i (record { line = old.line; kind = c.filled-with.result }) c.args.self.now.ranges new, tt)
+    let good = pass_at entry_in_range es i no_entry c.if-place-entries.true c.as_slice-entries.ensures.ranges in
+    let new = subst (λ (k : EntryKind). entry_kind_in_range k ≡ true) (sym c.filled_with.ensures) (filled_in_range _ _ old.kind good) in
+    (ap (list_all entry_in_range) c.put.ensures ∙ pass_set entry_in_range xs i (record { line = old.line; kind = c.filled_with.result }) c.args.self.now.ranges new, tt)
 
 pub returns-then-place-entries : goal.returns-then-place-entries
 returns-then-place-entries c =
     let xs = items c.args.self.now.list in
-    let es = c.as-slice-entries.result.now in
+    let es = c.as_slice-entries.result.now in
     let z = c.args.amount in
     let k = c.args.commodity in
-    let same : es ≡ xs = c.as-slice-entries.ensures.listed in
-    let i = c.place-of-blank-place.result in
-    let at : i ≡ blank_place es = c.place-of-blank-place.ensures in
+    let same : es ≡ xs = c.as_slice-entries.ensures.listed in
+    let i = c.place_of_blank-place.result in
+    let at : i ≡ blank_place es = c.place_of_blank-place.ensures in
     let within : blank_place es < length es = omega (arith, c.if-place-entries.true) in
-    let kind : c.filled-with.result ≡ filled_with z k (get_or es i no_entry).kind = c.filled-with.ensures ∙ ap (λ y. filled_with y k (get_or es i no_entry).kind) (to_z-of_z w32 z c.ranges.amount) in
+    let kind : c.filled_with.result ≡ filled_with z k (get_or es i no_entry).kind = c.filled_with.ensures ∙ ap (λ y. filled_with y k (get_or es i no_entry).kind) (to_z-of_z w32 z c.ranges.amount) in
     c.put.ensures
     ∙ ap (λ (q : EntryKind). set xs i (record { line = (get_or es i no_entry).line; kind = q })) kind
     ∙ ap (λ (ys : List Entry). set ys i (filled_entry z k (get_or es i no_entry))) (sym same)
@@ -42,7 +42,7 @@ returns-then-place-entries c =
 pub returns-else-place-entries : goal.returns-else-place-entries
 returns-else-place-entries c =
     let xs = items c.args.self.now.list in
-    let es = c.as-slice-entries.result.now in
-    let same : es ≡ xs = c.as-slice-entries.ensures.listed in
-    let past : length es ≤ blank_place es = omega (arith, c.if-place-entries.false, c.place-of-blank-place.ensures) in
+    let es = c.as_slice-entries.result.now in
+    let same : es ≡ xs = c.as_slice-entries.ensures.listed in
+    let past : length es ≤ blank_place es = omega (arith, c.if-place-entries.false, c.place_of_blank-place.ensures) in
     sym (sym (ap (fill c.args.amount c.args.commodity) same) ∙ fill_none c.args.amount c.args.commodity es past ∙ same)

@@ -6,8 +6,8 @@ use Rattle.booking.specs.Ranges.{entry_in_range}
 use Rattle.booking.proofs.Passing.{pass_pushed}
 use Rattle.booking.proofs.entries.Entries.push.Goals as goal
 
-pub invariant-of-self : goal.invariant-of-self
-invariant-of-self c =
+pub invariant_of-self : goal.invariant_of-self
+invariant_of-self c =
     let t = c.args.self.now in
     (pass_pushed entry_in_range 288 (items t.list) (items c.push.new.self) c.args.entry c.push.result c.push.ensures t.ranges c.requires.ranged, tt)
 

@@ -4,5 +4,5 @@ use Rattle.books.proofs.name.Name.new.Goals as goal
 
 pub returns : goal.returns
 returns c =
-    let same = c.copy-from-slice.ensures.after in
-    take_at c.copy-from-slice.new.self _ (length c.front-kept.result.now) (ap length same) ∙ same ∙ c.front-kept.ensures.value
+    let same = c.copy_from_slice.ensures.after in
+    take_at c.copy_from_slice.new.self _ (length c.front-kept.result.now) (ap length same) ∙ same ∙ c.front-kept.ensures.value

@@ -20,14 +20,14 @@ pub returns-then-place-accounts : goal.returns-then-place-accounts
 returns-then-place-accounts c =
     let xs = items c.args.self.now.accounts in
     let made : List Account → Names = λ l. record { commodities = map name_bytes (items c.args.self.now.commodities); accounts = l } in
-    let place = c.saturating-sub-place.ensures in
-    let listed = c.as-slice-accounts.ensures.items in
+    let place = c.saturating_sub-place.ensures in
+    let listed = c.as_slice-accounts.ensures.items in
     let i = c.args.account - 1 in
     let within : i < length xs = omega (arith, place, ap length listed, c.if-place-accounts.true) in
     ap made
     (ap (map account_of)
     (c.put.ensures
-    ∙ ap (λ (l : List kept.Account). set xs c.saturating-sub-place.result (shut (get_or l c.saturating-sub-place.result no_kept))) listed
+    ∙ ap (λ (l : List kept.Account). set xs c.saturating_sub-place.result (shut (get_or l c.saturating_sub-place.result no_kept))) listed
     ∙ ap (λ (k : ℕ). set xs k (shut (get_or xs k no_kept))) place)
     ∙ map-set account_of xs i (shut (get_or xs i no_kept))
     ∙ ap (λ (a : Account). set (map account_of xs) i (closed a)) (sym (get_or-map account_of xs i no_kept no_account within)))
@@ -37,4 +37,4 @@ returns-else-place-accounts c =
     let xs = items c.args.self.now.accounts in
     let k = names_of c.args.self.now in
     let made : List Account → Names = λ l. record { commodities = map name_bytes (items c.args.self.now.commodities); accounts = l } in
-    sym (ap made (set_mapped_past account_of xs (c.args.account - 1) (closed (account_at k c.args.account)) (omega (arith, c.saturating-sub-place.ensures, ap length c.as-slice-accounts.ensures.items, c.if-place-accounts.false))))
+    sym (ap made (set_mapped_past account_of xs (c.args.account - 1) (closed (account_at k c.args.account)) (omega (arith, c.saturating_sub-place.ensures, ap length c.as_slice-accounts.ensures.items, c.if-place-accounts.false))))

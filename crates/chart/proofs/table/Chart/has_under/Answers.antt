@@ -10,7 +10,7 @@ use Rattle.chart.proofs.table.Chart.has_under.Goals as goal
 pub returns : goal.returns
 returns c =
     let test = account_passes Under c.args.name.now in
-    c.is-some.ensures
-    ∙ ap is_some c.account-of.ensures
-    ∙ any_found test 1 (map account_of c.as-slice.result.now)
-    ∙ ap (λ (l : List kept.Account). any test (map account_of l)) c.as-slice.ensures.items
+    c.is_some.ensures
+    ∙ ap is_some c.account_of.ensures
+    ∙ any_found test 1 (map account_of c.as_slice.result.now)
+    ∙ ap (λ (l : List kept.Account). any test (map account_of l)) c.as_slice.ensures.items

@@ -15,14 +15,14 @@ no_kept = record { name = record { bytes = []; len = 0 }; own = None; is_open = 
 pub returns-then-place-accounts : goal.returns-then-place-accounts
 returns-then-place-accounts c =
     let xs = items c.args.self.now.accounts in
-    let place = c.saturating-sub-place.ensures in
-    let listed = c.as-slice-accounts.ensures.items in
+    let place = c.saturating_sub-place.ensures in
+    let listed = c.as_slice-accounts.ensures.items in
     let within : c.args.account - 1 < length xs = omega (arith, place, ap length listed, c.if-place-accounts.true) in
-    ap (λ (l : List kept.Account). (get_or l c.saturating-sub-place.result no_kept).own) listed
+    ap (λ (l : List kept.Account). (get_or l c.saturating_sub-place.result no_kept).own) listed
     ∙ ap (λ (i : ℕ). (get_or xs i no_kept).own) place
     ∙ sym (ap (λ (a : Account). a.own) (get_or-map account_of xs (c.args.account - 1) no_kept no_account within))
 
 pub returns-else-place-accounts : goal.returns-else-place-accounts
 returns-else-place-accounts c =
     let xs = items c.args.self.now.accounts in
-    sym (ap (λ (a : Account). a.own) (past_mapped account_of xs (c.args.account - 1) no_account (omega (arith, c.saturating-sub-place.ensures, ap length c.as-slice-accounts.ensures.items, c.if-place-accounts.false))))
+    sym (ap (λ (a : Account). a.own) (past_mapped account_of xs (c.args.account - 1) no_account (omega (arith, c.saturating_sub-place.ensures, ap length c.as_slice-accounts.ensures.items, c.if-place-accounts.false))))

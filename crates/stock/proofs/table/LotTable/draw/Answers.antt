@@ -28,7 +28,7 @@ loop-left-smaller g c =
     let kept = c.lots.ensures.kept in
     let first = subst (λ (rs : List LotRow). EarliestAt M (o.before u) rs (length rs) c.in-Some.place) c.lots.ensures.listed c.in-Some.ensures in
     let some = taken_some o (g.met.P.Policy.keeps c.args.policy.now) M u (items c.args.self.now.rows) now (items l.draws) l.left l.self.next c.in-Some.place kept l.invariant.0 c.loop-left-test.true first
-    c.take-from-draw.result (table_of c.take-from-draw.new.self) c.take-from-draw.ensures in
+    c.take_from-draw.result (table_of c.take_from-draw.new.self) c.take_from-draw.ensures in
     omega arith
 
 pub loop-left-preserved : goal.loop-left-preserved
@@ -39,14 +39,14 @@ loop-left-preserved g c =
     let l = c.loop-left in
     let old = items c.args.self.now.rows in
     let now = items l.self.rows in
-    let d = c.take-from-draw.result in
-    let after = table_of c.take-from-draw.new.self in
+    let d = c.take_from-draw.result in
+    let after = table_of c.take_from-draw.new.self in
     let kept = c.lots.ensures.kept in
     let first = subst (λ (rs : List LotRow). EarliestAt M (o.before u) rs (length rs) c.in-Some.place) c.lots.ensures.listed c.in-Some.ensures in
-    let step = taken o (g.met.P.Policy.keeps c.args.policy.now) M u old now (items l.draws) l.left l.self.next c.in-Some.place kept l.invariant.0 c.loop-left-test.true first d after c.take-from-draw.ensures in
+    let step = taken o (g.met.P.Policy.keeps c.args.policy.now) M u old now (items l.draws) l.left l.self.next c.in-Some.place kept l.invariant.0 c.loop-left-test.true first d after c.take_from-draw.ensures in
     let pushed = pushed_ok 256 (items l.draws) (items c.push.new.self) d c.in-Ok.field-0 c.in-Ok.ensures in (
       subst (λ (ds : List Draw). UnderWay M (o.before u) u old after.lots ds (l.left - d.units)) (sym pushed.0) step,
-      taken_next c.in-Some.place l.left (table_of l.self) d after c.take-from-draw.ensures ∙ l.invariant.1,
+      taken_next c.in-Some.place l.left (table_of l.self) d after c.take_from-draw.ensures ∙ l.invariant.1,
     )
 
 pub returns : goal.returns

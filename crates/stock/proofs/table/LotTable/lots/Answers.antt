@@ -6,4 +6,4 @@ use Rattle.stock.proofs.table.LotTable.lots.Goals as goal
 pub returns : goal.returns
 returns c =
     let t = c.args.self.now in
-    record { listed = c.as-slice.ensures.items; kept = in_words (items t.rows) t.next (items_within t.rows) t.kept }
+    record { listed = c.as_slice.ensures.items; kept = in_words (items t.rows) t.next (items_within t.rows) t.kept }

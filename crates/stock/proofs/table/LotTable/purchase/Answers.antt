@@ -19,7 +19,7 @@ pub returns-in-Some : goal.returns-in-Some
 returns-in-Some c =
     let t = c.args.self.now in
     let b = c.args.bought.now in
-    let at = found c.row-units.result.key b.key c.lots.result.now (items t.rows) c.place-of.result (Some c.in-Some.place) (ap (λ (r : LotRow). r.key) c.row-units.ensures) c.lots.ensures.listed c.in-Some.is c.place-of.ensures in
+    let at = found c.row-units.result.key b.key c.lots.result.now (items t.rows) c.place_of.result (Some c.in-Some.place) (ap (λ (r : LotRow). r.key) c.row-units.ensures) c.lots.ensures.listed c.in-Some.is c.place_of.ensures in
     let kept = c.lots.ensures.kept in
     let grew = c.grow.ensures ∙ ap (λ (r : LotRow). grown_at c.in-Some.place r.units (table_of t)) c.row-units.ensures in
     let is = grew ∙ grown_is_purchased b.key b.units (table_of t) kept c.in-Some.place at in
@@ -35,7 +35,7 @@ pub returns-in-None : goal.returns-in-None
 returns-in-None c =
     let t = c.args.self.now in
     let b = c.args.bought.now in
-    let at = found c.row-units.result.key b.key c.lots.result.now (items t.rows) c.place-of.result None (ap (λ (r : LotRow). r.key) c.row-units.ensures) c.lots.ensures.listed c.in-None.is c.place-of.ensures in
+    let at = found c.row-units.result.key b.key c.lots.result.now (items t.rows) c.place_of.result None (ap (λ (r : LotRow). r.key) c.row-units.ensures) c.lots.ensures.listed c.in-None.is c.place_of.ensures in
     record {
       booked = λ low. c.start.ensures ∙ opened_is_purchased b.key b.units (table_of t) b.bounded at low;
       out_of_serials = λ high. c.start.ensures ∙ opened_is_late b.key b.units (table_of t) b.bounded at high;

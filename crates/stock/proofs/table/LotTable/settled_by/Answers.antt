@@ -29,6 +29,6 @@ returns-in-Some g c =
     let kept = c.lots-rows.ensures.kept in
     let first = subst (λ (rs : List LotRow). EarliestAt M (o.before u) rs (length rs) i) same c.in-Some.ensures in
     c.settles.ensures
-    ∙ ap (λ (n : ℕ). o.settles (record { units = u; lots = n; earliest = get_or rows i no_lot })) c.lots-matching.ensures
+    ∙ ap (λ (n : ℕ). o.settles (record { units = u; lots = n; earliest = get_or rows i no_lot })) c.lots_matching.ensures
     ∙ ap (λ (rs : List LotRow). o.settles (question u M rs (get_or rs i no_lot))) same
     ∙ sym (settled_at o (g.met.P.Policy.keeps c.args.policy.now) M u xs kept.serials_rise i first)

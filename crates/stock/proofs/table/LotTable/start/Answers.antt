@@ -10,8 +10,8 @@ use Rattle.stock.proofs.Keeping.{in_words, as_test, kept_pushed, lot_in_range}
 use Rattle.stock.proofs.Purchases.{keys_others}
 use Rattle.stock.proofs.table.LotTable.start.Goals as goal
 
-pub invariant-of-self : goal.invariant-of-self
-invariant-of-self c =
+pub invariant_of-self : goal.invariant_of-self
+invariant_of-self c =
     let t = c.args.self.now in
     let xs = items t.rows in
     let x : LotRow = record { key = c.row.result.key; units = c.row.result.units; serial = t.next } in
