@@ -11,11 +11,11 @@ returns-then-not-is_ascii_digit c = record {
   bound = tt;
 }
 
-pub overflow-mul-n : goal.overflow-mul-n
-overflow-mul-n c = let r = room _ _ c.loop-b.invariant.1 (omega arith) in search rules
+pub overflow_mul-n : goal.overflow_mul-n
+overflow_mul-n c = let r = room _ _ c.loop-b.invariant.1 (omega arith) in search rules
 
-pub overflow-add-n : goal.overflow-add-n
-overflow-add-n c = let r = room _ _ c.loop-b.invariant.1 (omega arith) in let k = c.if-not-is_ascii_digit.ensures.cases in search rules
+pub overflow_add-n : goal.overflow_add-n
+overflow_add-n c = let r = room _ _ c.loop-b.invariant.1 (omega arith) in let k = c.if-not-is_ascii_digit.ensures.cases in search rules
 
 pub loop-b-preserved : goal.loop-b-preserved
 loop-b-preserved c =

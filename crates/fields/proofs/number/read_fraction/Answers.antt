@@ -8,9 +8,9 @@ read_digits-requires c = omega arith
 pub read_digits-requires-in-3 : goal.read_digits-requires-in-3
 read_digits-requires-in-3 c = omega arith
 
-pub returns-in_ok-tenths : goal.returns-in_ok-tenths
-returns-in_ok-tenths c =
-    let read = c.in_ok-tenths.ensures in
+pub returns-in_ok-tenths-in-2 : goal.returns-in_ok-tenths-in-2
+returns-in_ok-tenths-in-2 c =
+    let read = c.in_ok-tenths-in-2.ensures in
     record { value = tenths _ _ _ c.in-2.is c.after.ensures.value read.value; bound = omega (arith, rest_below (Some _) _ _ 1 c.in-2.is c.after.ensures.value read.bound) }
 
 pub returns-in-3 : goal.returns-in-3

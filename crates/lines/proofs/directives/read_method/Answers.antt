@@ -6,9 +6,9 @@ pub returns-in_err-value : goal.returns-in_err-value
 unfolding method_from
 returns-in_err-value c = search rules
 
-pub returns-in-default : goal.returns-in-default
+pub returns-in_default : goal.returns-in_default
 unfolding method_from
-returns-in-default c = search rules
+returns-in_default c = search rules
 
 pub returns-in_err-read_end : goal.returns-in_err-read_end
 unfolding method_from

@@ -17,7 +17,7 @@ loop-entry-preserved c =
     let es = c.args.entries.now in
     let i = c.loop-entry.entry-index in
     let step = at_drop_more blank_account es i no_entry c.loop-entry-test.true in
-    sym (account_other (get_or es i no_entry).kind (blank_account (drop (i + 1) es)) c.in-default.not-Unfilled) ∙ sym step ∙ c.loop-entry.invariant
+    sym (account_other (get_or es i no_entry).kind (blank_account (drop (i + 1) es)) c.in_default.not-Unfilled) ∙ sym step ∙ c.loop-entry.invariant
 
 pub returns : goal.returns
 returns c = sym (at_drop_all blank_account c.args.entries.now c.loop-entry.entry-index c.loop-entry-test.false) ∙ c.loop-entry.invariant

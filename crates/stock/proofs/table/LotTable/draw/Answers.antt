@@ -14,7 +14,7 @@ pub unreachable-requires : goal.unreachable-requires
 unreachable-requires g c =
     let M = matches c.args.wanted.now in
     let now = items c.loop-left.self.rows in
-    let none = none_left M now (subst (λ (rs : List LotRow). NoneMatch M rs (length rs)) c.lots.ensures.listed c.in-default.ensures) in
+    let none = none_left M now (subst (λ (rs : List LotRow). NoneMatch M rs (length rs)) c.lots.ensures.listed c.in_default.ensures) in
     let enough = c.loop-left.invariant.0.enough in
     omega arith
 

@@ -16,4 +16,4 @@ invariant_of-self c =
     let grew = grown_some (row_of c.lot_at.result) (row_of c.in-Some.lot) n c.in-Some.ensures in
     let same : c.row-row.result ≡ with_more x n = c.row-row.ensures ∙ grew ∙ ap (λ (r : LotRow). with_more r n) c.lot_at.ensures in
     let good = subst (λ (r : LotRow). in_range r ≡ true) (sym c.row-row.ensures) (lot_in_range c.in-Some.lot) in
-    (ap (λ (rs : List LotRow). well_kept rs t.next) c.put.ensures ∙ kept_set xs t.next c.args.place (x.units + n) c.row-row.result (items_within t.rows) c.requires same good t.kept, tt)
+    record { kept = ap (λ (rs : List LotRow). well_kept rs t.next) c.put.ensures ∙ kept_set xs t.next c.args.place (x.units + n) c.row-row.result (items_within t.rows) c.requires same good t.kept }

@@ -11,7 +11,7 @@ unreachable-requires c =
     let r = get_or (items t.rows) c.args.place no_lot in
     let good = All-get_or (λ r. in_range r ≡ true) (items t.rows) c.args.place no_lot c.requires c.lots.ensures.kept.ranges in
     let there = cond-true (in_range r) (Some r) None good in
-    let none = c.in-default.ensures in
+    let none = c.in_default.ensures in
     let same = c.lots.ensures.listed in
     let z : ◌≡◌ {A = ℕ} 0 1 = cc in
     omega arith
