@@ -28,7 +28,7 @@ returns-in_err-book_posting g c =
     let l = c.loop-posting in
     let b = booked_of l.self in
     let ps = c.args.postings.now in
-    let p = err_from_is_err_and c.from-residual.result c.from-residual.ensures.1 in
+    let p = err_from_is_err_and c.from_residual.result c.from_residual.ensures.1 in
     let grown = c.in_err-book_posting.ensures.grows.serials in
     let was = l.invariant.2 in
     record {

@@ -19,10 +19,10 @@ returns-in_err-serial c =
     let lot = lot_is (row_of c.in-Some.bought) (record { key = c.args.key; units = c.args.units; serial = 0 }) c.in-Some.ensures in
     let low : b.0.next < last_serial = omega (arith, c.requires.serials) in
     let e = c.in_err-serial.ensures.booked low ∙ ap (λ (r : LotRow). purchased r.key r.units b.0) lot in
-    let p = err_from_is_err_and c.from-residual.result c.from-residual.ensures.1 in
+    let p = err_from_is_err_and c.from_residual.result c.from_residual.ensures.1 in
     record {
       defined = ap (map_ok _) p.1 ∙ ap Err p.2 ∙ purchase_refused c.args.line c.args.key c.args.units b t' c.in_err-serial.field-0.0 e;
-      grows = subst (λ (t : Table). Grows b (t, b.1)) (sym c.in_err-serial.ensures.refusal-changes-nothing) (grows_kept b);
+      grows = subst (λ (t : Table). Grows b (t, b.1)) (sym c.in_err-serial.ensures.refusal_changes_nothing) (grows_kept b);
     }
 
 pub returns : goal.returns

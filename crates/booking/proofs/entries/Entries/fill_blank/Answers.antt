@@ -19,7 +19,7 @@ invariant_of-self c =
     let old = get_or es i no_entry in
     let good = pass_at entry_in_range es i no_entry c.if-place-entries.true c.as_slice-entries.ensures.ranges in
     let new = subst (λ (k : EntryKind). entry_kind_in_range k ≡ true) (sym c.filled_with.ensures) (filled_in_range _ _ old.kind good) in
-    (ap (list_all entry_in_range) c.put.ensures ∙ pass_set entry_in_range xs i (record { line = old.line; kind = c.filled_with.result }) c.args.self.now.ranges new, tt)
+    record { ranges = ap (list_all entry_in_range) c.put.ensures ∙ pass_set entry_in_range xs i (record { line = old.line; kind = c.filled_with.result }) c.args.self.now.ranges new }
 
 pub returns-then-place-entries : goal.returns-then-place-entries
 returns-then-place-entries c =

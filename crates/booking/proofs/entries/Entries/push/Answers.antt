@@ -9,7 +9,7 @@ use Rattle.booking.proofs.entries.Entries.push.Goals as goal
 pub invariant_of-self : goal.invariant_of-self
 invariant_of-self c =
     let t = c.args.self.now in
-    (pass_pushed entry_in_range 288 (items t.list) (items c.push.new.self) c.args.entry c.push.result c.push.ensures t.ranges c.requires.ranged, tt)
+    record { ranges = pass_pushed entry_in_range 288 (items t.list) (items c.push.new.self) c.args.entry c.push.result c.push.ensures t.ranges c.requires.ranged }
 
 pub returns : goal.returns
 returns c =

@@ -6,4 +6,4 @@ use Rattle.booking.proofs.postings.Postings.add.Goals as goal
 pub invariant_of-self : goal.invariant_of-self
 invariant_of-self c =
     let t = c.args.self.now in
-    (pass_pushed posting_in_range 16 (items t.list) (items c.push.new.self) c.args.posting c.push.result c.push.ensures t.ranges c.requires, tt)
+    record { ranges = pass_pushed posting_in_range 16 (items t.list) (items c.push.new.self) c.args.posting c.push.result c.push.ensures t.ranges c.requires }
