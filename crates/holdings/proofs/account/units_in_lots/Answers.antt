@@ -6,8 +6,8 @@ use Rattle.booking.specs.Postings.{wanted_lots}
 use Rattle.holdings.proofs.Bounds.{kept_few}
 use Rattle.holdings.proofs.account.units_in_lots.Goals as goal
 
-pub overflow-cast-result : goal.overflow-cast-result
-overflow-cast-result c =
+pub overflow_cast-result : goal.overflow_cast-result
+overflow_cast-result c =
     let M = matches (wanted_lots c.args.account c.args.commodity None None) in
     let few = kept_few M (table_of c.args.lots.now) c.lots.ensures.kept in
     let sum = c.units_matching.ensures ∙ ap (units_matching M) c.lots.ensures.listed in
