@@ -1,5 +1,5 @@
 -- How far balances can have moved after some entries.
-use Rattle.std.proofs.Common.{◌≡◌, ℕ, zero, suc, ◌+◌, ◌*◌, ◌<◌, ◌≤◌, true, leb, ◌≢◌, List, [], ◌∷◌, length, get_or, set, ℤ, pos, nat_abs, ⊎_elim, arith}
+use Rattle.std.proofs.Common.{◌≡◌, ℕ, zero, suc, ◌+◌, ◌<◌, ◌≤◌, true, leb, ◌≢◌, List, [], ◌∷◌, length, get_or, set, ℤ, pos, nat_abs, ⊎_elim, arith}
 use Rattle.std.proofs.lemmas.List.{get_or-set_same, get_or-set_other}
 use Rattle.std.proofs.lemmas.Bool.{cases_eq, and_parts, leb-true}
 use Rattle.booking.specs.Balances.{largest_balance, all_within}

@@ -12,7 +12,6 @@ use Rattle.booking.specs.Weighing.{is_zero, is_empty, is_whole, is_amount, own_a
 use Rattle.booking.specs.Balances.{first_met}
 use Rattle.booking.specs.Stages.{unless}
 use Rattle.balancing.specs.declared.unbalanced.Unbalanced.{Unbalanced}
-use Rattle.balancing.specs.declared.unbalanced.Unbalanced.TheVariants.{Nothing, Only, Several}
 use Rattle.balancing.specs.Summary.{summary, one_more, and_commodity, amount_for, filled_if, with_blank, without_blank, balanced, entries_after}
 
 pub empty_is : {X : Type 0} (xs : List X) → eqb (length xs) 0 ≡ is_empty xs

@@ -5,7 +5,7 @@ use Rattle.refusal.specs.declared.Refusal.TheVariants.{NotBalanced, BlankCannotB
 use Rattle.record.specs.Layout.{if_ok}
 use Rattle.booking.specs.declared.posting.Posting.{Posting}
 use Rattle.booking.specs.declared.entry.Entry.{Entry}
-use Rattle.booking.specs.Weighing.{is_zero, is_empty, is_whole, is_amount, own_agrees, blank_amount, fill, has_blank, unbalanced_in, weight_sum, complete, not_balanced, blank_cannot_be_filled}
+use Rattle.booking.specs.Weighing.{is_zero, is_whole, is_amount, own_agrees, blank_amount, fill, complete, not_balanced, blank_cannot_be_filled}
 use Rattle.booking.specs.Balances.{first_met}
 use Rattle.booking.specs.Stages.{unless}
 use Rattle.balancing.specs.declared.unbalanced.Unbalanced.{Unbalanced}

@@ -1,5 +1,5 @@
 -- The first blank by its place.
-use Rattle.std.proofs.Common.{◌≡◌, ℕ, suc, ◌+◌, ◌<◌, ◌≤◌, Bool, true, false, cond, not, List, [], ◌∷◌, length, get_or, set, ℤ, pos, Option, sym, refl, ap, ◌∙◌, subst, arith}
+use Rattle.std.proofs.Common.{◌≡◌, ℕ, suc, ◌+◌, ◌<◌, ◌≤◌, Bool, true, cond, not, List, [], ◌∷◌, length, get_or, set, ℤ, pos, Option, sym, refl, ap, ◌∙◌, arith}
 use Rattle.matching.proofs.Sums.{by_bool}
 use Rattle.booking.specs.declared.entry.Entry.{Entry}
 use Rattle.booking.specs.declared.entry.EntryKind.{EntryKind}

@@ -1,9 +1,9 @@
 -- What filling the blank leaves of the entries, and that a whole amount balances the sum that it came from.
-use Rattle.std.proofs.Common.{◌≡◌, ℕ, suc, ◌+◌, ◌*◌, ◌/◌, ◌%◌, Bool, true, cond, eqb, List, [], ◌∷◌, length, ℤ, pos, negsuc, ◌+ℤ◌, ◌*ℤ◌, nat_abs, refl, ap, arith}
+use Rattle.std.proofs.Common.{◌≡◌, ℕ, suc, ◌%◌, true, List, [], ◌∷◌, length, ℤ, pos, negsuc, ◌+ℤ◌, ◌*ℤ◌, refl, ap, arith}
 use Rattle.std.proofs.lemmas.Int.{ints}
 use Rattle.std.proofs.lemmas.Bool.{eqb-true, cond_both}
 use Rattle.booking.specs.declared.entry.Entry.{Entry}
-use Rattle.booking.specs.Weighing.{is_unfilled, filled_with, fill, unbalanced_in, weight_sum, filled_by, complete, is_whole, blank_amount}
+use Rattle.booking.specs.Weighing.{is_unfilled, fill, unbalanced_in, weight_sum, filled_by, complete, is_whole, blank_amount}
 use Rattle.booking.proofs.Blanks.{filled_entry}
 
 pub length_fill : (z : ℤ) (c : ℕ) (es : List Entry) → length (fill z c es) ≡ length es

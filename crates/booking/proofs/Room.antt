@@ -13,7 +13,7 @@ use Rattle.matching.specs.Matching.{matches, units_matching}
 use Rattle.matching.specs.Drawing.{units_before, gives, lots_left, insert_draw, draws_in_order, draws_of, lots_after}
 use Rattle.matching.specs.Drawn.{Member, AllPairs, SerialsRise}
 use Rattle.matching.proofs.Sums.{by_bool, gives_most}
-use Rattle.matching.proofs.Drawing.{all_member, all_draws, sum_of_zero_all, emptied}
+use Rattle.matching.proofs.Drawing.{all_draws, sum_of_zero_all, emptied}
 use Rattle.stock.specs.Tables.{Table}
 use Rattle.stock.specs.Kept.{WellKept}
 use Rattle.stock.proofs.Keeping.{some_units}

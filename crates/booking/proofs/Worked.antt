@@ -1,15 +1,14 @@
 -- A worked draft: a purchase of 2.50 at 3.33 weighs 8.3250, which no amount of hundredths balances.
-use Rattle.std.proofs.Common.{◌≡◌, ℕ, List, [], ◌∷◌, ℤ, pos, neg_ℤ, Some, None, Option, refl}
+use Rattle.std.proofs.Common.{◌≡◌, ℕ, List, [], ◌∷◌, pos, neg_ℤ, Some, None, Option, refl}
 use Rattle.refusal.specs.declared.Refusal.{Refusal}
 use Rattle.refusal.specs.declared.Refusal.TheVariants.{NotBalanced, BlankCannotBeFilled}
-use Rattle.refusal.specs.declared.Fault.{Fault}
 use Rattle.lots.specs.Orders.{fifo}
 use Rattle.stock.specs.Tables.{no_lots}
 use Rattle.booking.specs.declared.posting.Posting.{Posting}
 use Rattle.booking.specs.declared.posting.PostingKind.TheVariants.{Blank, Plain, Purchase}
 use Rattle.booking.specs.declared.entry.Entry.{Entry}
 use Rattle.booking.specs.declared.entry.EntryKind.TheVariants.{Bought, Filled}
-use Rattle.booking.specs.Booking.{entries_of, first_fault, table_after}
+use Rattle.booking.specs.Booking.{entries_of, first_fault}
 use Rattle.booking.specs.Weighing.{weight_sum, unbalanced_in, complete}
 use Rattle.booking.specs.Balances.{first_met, weighing_tests, no_balances}
 

@@ -1,5 +1,5 @@
 -- The ranges of what a draft holds: a purchase is within a lot's ranges, and no entry has more units than a lot can have.
-use Rattle.std.specs.Prelude.{ℕ, Bool, true, ◌&&◌, nat_le}
+use Rattle.std.specs.Prelude.{Bool, true, ◌&&◌, nat_le}
 use Rattle.lots.specs.Rows.{most}
 use Rattle.matching.specs.declared.wanted.Draw.{Draw}
 use Rattle.booking.specs.declared.posting.Posting.{Posting}

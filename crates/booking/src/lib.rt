@@ -1,4 +1,6 @@
 // Booking the postings of a draft: each upon the lots that the one before left.
+#![tactic(auto)]
+
 pub mod booked;
 pub mod draft;
 pub mod entries;

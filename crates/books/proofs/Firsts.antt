@@ -1,11 +1,9 @@
 -- The first test that is met, and the order of the tables.
-use Rattle.std.proofs.Common.{◌≡◌, ℕ, ◌≤◌, Bool, true, false, cond, ◌&&◌, ◌||◌, leb, ◌⊎◌, List, [], ◌∷◌, ◌++◌, ℤ, Some, None, Option, sym, refl, ap, ◌∙◌, inl, inr, ⊎_elim, arith}
+use Rattle.std.proofs.Common.{◌≡◌, ℕ, ◌≤◌, Bool, true, false, ◌&&◌, ◌||◌, leb, ◌⊎◌, List, [], ◌∷◌, ◌++◌, ℤ, Some, None, Option, refl, ap, ◌∙◌, inl, inr, ⊎_elim, arith}
 use Rattle.std.specs.List.{AllByRecursion as All, list_all}
 use Rattle.std.proofs.lemmas.Bool.{cases_Bool, cond-true, cond-false, and_parts, and_from, or_left, or_right, le-leb}
 use Rattle.std.proofs.ByRecursion.{All-append, All-weaker}
-use Rattle.refusal.specs.declared.Refusal.{Refusal}
 use Rattle.refusal.specs.declared.Refusal.TheVariants.{NoSuchDraft}
-use Rattle.refusal.specs.declared.Fault.{Fault}
 use Rattle.refusal.specs.Table.{number_of}
 use Rattle.matching.specs.Drawn.{AllPairs}
 use Rattle.stock.specs.Tables.{Table}
@@ -15,13 +13,11 @@ use Rattle.booking.specs.declared.posting.PostingKind.{PostingKind}
 use Rattle.booking.specs.declared.posting.PostingKind.TheVariants.{Blank, Plain, Purchase, Reduction}
 use Rattle.booking.specs.declared.entry.Entry.{Entry}
 use Rattle.booking.specs.Postings.{table_after_posting}
-use Rattle.books.specs.declared.outcome.Outcome.TheVariants.{Refused}
 use Rattle.books.specs.States.{Draft, State}
-use Rattle.books.specs.Calls.{Call, declaring, opening, asserting, closing, beginning, posting, settling, tearing, writing_header, AmountGiven, BracesGiven, CostGiven}
+use Rattle.books.specs.Calls.{declaring, opening, asserting, closing, beginning, posting, settling, tearing, writing_header, AmountGiven, BracesGiven, CostGiven}
 use Rattle.books.specs.Conditions.{no_such_draft}
 use Rattle.books.specs.Refusals.{Test, tests_at, fault_of, first_fault_met, if_given, lots_tests, lots_tests_of_all, whole_draft_tests, draft_entries, draft_tests, amount_tests, posting_tests, tests, refusal}
-use Rattle.books.specs.Changes.{change, reply}
-use Rattle.books.specs.Steps.{answered, step, FirstMet, AnswersFirstMet, both_between, may_precede, InListOrder, TablesInListOrder}
+use Rattle.books.specs.Steps.{answered, FirstMet, AnswersFirstMet, both_between, may_precede, InListOrder, TablesInListOrder}
 
 pub first_or_none : (ts : List Test) → ((t : Test) × FirstMet ts t × (first_fault_met ts ≡ Some (fault_of t))) ⊎ (All (λ t. t.met ≡ false) ts × (first_fault_met ts ≡ None))
 first_or_none [] = inr (tt, refl)

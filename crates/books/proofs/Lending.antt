@@ -1,6 +1,6 @@
 -- A call that is lent the front of a record leaves the record as if it were lent all of it: it writes only where there is room.
-use Rattle.std.proofs.Common.{◌≡◌, ℕ, ◌+◌, ◌*◌, ◌≤◌, List, [], ◌∷◌, ◌++◌, length, take, drop, sym, refl, ap, ◌∙◌, zero-add, arith}
-use Rattle.std.proofs.lemmas.List.{append_assoc, length-append, length-take, length-drop, length-take-le, take-append-le, drop-append-le, take-append-drop}
+use Rattle.std.proofs.Common.{◌≡◌, ℕ, ◌+◌, ◌≤◌, List, ◌++◌, length, take, drop, sym, ap, ◌∙◌, arith}
+use Rattle.std.proofs.lemmas.List.{append_assoc, length-append, length-take, length-drop, take-append-le, drop-append-le}
 use Rattle.record.specs.declared.header.Header.{Header}
 use Rattle.record.specs.declared.rows.Row.{Row}
 use Rattle.record.specs.Layout.{header_length, first_free, rows_bytes, header_bytes, write_at, header_after, record_after}

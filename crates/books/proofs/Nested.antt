@@ -1,8 +1,7 @@
 -- The table of a settling, read as what booking defines: 2, then the first posting to meet one of 21 to 24, then the whole draft.
-use Rattle.std.proofs.Common.{◌≡◌, ℕ, ◌+◌, Bool, true, false, cond, not, ◌&&◌, ltb, leb, List, [], ◌∷◌, ◌++◌, length, Some, None, Option, sym, refl, ap, ◌∙◌}
-use Rattle.std.specs.List.{AllByRecursion as All}
+use Rattle.std.proofs.Common.{◌≡◌, ℕ, ◌+◌, Bool, cond, not, ◌&&◌, ltb, leb, List, [], ◌∷◌, ◌++◌, length, Some, None, Option, refl, ap, ◌∙◌}
 use Rattle.refusal.specs.declared.Refusal.{Refusal}
-use Rattle.refusal.specs.declared.Refusal.TheVariants.{NoSuchDraft, LotTooLarge, TooFewUnits, NotSettledByPolicy, TooManyLots}
+use Rattle.refusal.specs.declared.Refusal.TheVariants.{LotTooLarge, TooFewUnits, NotSettledByPolicy, TooManyLots}
 use Rattle.refusal.specs.declared.Fault.{Fault}
 use Rattle.lots.specs.Rows.{most}
 use Rattle.lots.specs.Orders.{Order}
@@ -17,9 +16,7 @@ use Rattle.booking.specs.Postings.{purchase_key, wanted_lots, table_after_postin
 use Rattle.booking.specs.Booking.{at_line, or_else, first_fault}
 use Rattle.booking.specs.Balances.{first_met}
 use Rattle.books.specs.States.{Draft, State}
-use Rattle.books.specs.Calls.{settling}
-use Rattle.books.specs.Conditions.{no_such_draft}
-use Rattle.books.specs.Refusals.{Test, tests_at, fault_of, first_fault_met, lots_tests, lots_tests_of_all, whole_draft_tests, draft_entries, draft_tests, tests, refusal}
+use Rattle.books.specs.Refusals.{Test, tests_at, fault_of, first_fault_met, lots_tests, lots_tests_of_all, whole_draft_tests, draft_entries, draft_tests}
 
 pub first_append : (xs ys : List Test) → first_fault_met (xs ++ ys) ≡ or_else (first_fault_met xs) (first_fault_met ys)
 first_append [] ys = refl

@@ -1,5 +1,5 @@
 -- What a host may rely on: a slip that was just handed out is the draft's, and its draft can be torn.
-use Rattle.std.proofs.Common.{◌≡◌, ℕ, ◌+◌, Bool, true, false, cond, not, ◌&&◌, eqb, List, [], ◌∷◌, is_some, Some, None, Option, sym, refl, ap, ◌∙◌, subst, arith}
+use Rattle.std.proofs.Common.{◌≡◌, ℕ, ◌+◌, Bool, true, false, not, ◌&&◌, eqb, List, is_some, Some, None, Option, sym, refl, ap, ◌∙◌, subst, arith}
 use Rattle.std.specs.Option.{option_map}
 use Rattle.std.proofs.lemmas.Bool.{cond-false, not_from_true, eq-eqb}
 use Rattle.refusal.specs.declared.Refusal.TheVariants.{NoSuchDraft}
@@ -8,13 +8,12 @@ use Rattle.values.specs.declared.flag.Flag.{Flag}
 use Rattle.lots.specs.Orders.{Order}
 use Rattle.booking.specs.declared.posting.Posting.{Posting}
 use Rattle.booking.specs.Booking.{fault_at}
-use Rattle.books.specs.declared.outcome.Outcome.{Outcome}
-use Rattle.books.specs.declared.outcome.Outcome.TheVariants.{Begun, Done, Refused}
+use Rattle.books.specs.declared.outcome.Outcome.TheVariants.{Begun, Done}
 use Rattle.books.specs.States.{Draft, State}
-use Rattle.books.specs.Calls.{Call, beginning, posting, settling, tearing, AmountGiven}
+use Rattle.books.specs.Calls.{beginning, posting, settling, tearing, AmountGiven}
 use Rattle.books.specs.Conditions.{no_such_draft}
 use Rattle.books.specs.Refusals.{refusal}
-use Rattle.books.specs.Changes.{new_draft, with_draft, change, posting_of, with_posting}
+use Rattle.books.specs.Changes.{with_draft, posting_of, with_posting}
 use Rattle.books.specs.Steps.{answered, step}
 
 -- a draft is under way, and this is its slip's number

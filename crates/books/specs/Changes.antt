@@ -1,5 +1,5 @@
 -- What an accepted call leaves, and what it answers.
-use Rattle.std.specs.Prelude.{ℕ, suc, ◌+◌, ◌-◌, Bool, true, false, List, [], ◌∷◌, ◌++◌, length, ℤ, pos, negsuc, Some, None, Option, slice_set, unsigned_abs}
+use Rattle.std.specs.Prelude.{ℕ, suc, ◌+◌, ◌-◌, true, false, List, [], ◌∷◌, ◌++◌, length, ℤ, pos, negsuc, Some, None, Option, slice_set, unsigned_abs}
 use Rattle.std.specs.Option.{option_map}
 use Rattle.values.specs.declared.flag.Flag.{Flag}
 use Rattle.lots.specs.declared.rows.Cost.{Cost}
@@ -13,7 +13,7 @@ use Rattle.booking.specs.Booking.{table_after, entries_of}
 use Rattle.booking.specs.Weighing.{complete}
 use Rattle.booking.specs.Balances.{balances_after}
 use Rattle.books.specs.declared.outcome.Outcome.{Outcome}
-use Rattle.books.specs.declared.outcome.Outcome.TheVariants.{Declared, Opened, Begun, Settled, Done, Refused}
+use Rattle.books.specs.declared.outcome.Outcome.TheVariants.{Declared, Opened, Begun, Settled, Done}
 use Rattle.books.specs.States.{Account, Names, Books, Draft, State}
 use Rattle.books.specs.Calls.{Call, declaring, opening, asserting, closing, beginning, posting, settling, tearing, writing_header, CostGiven, BracesGiven, AmountGiven}
 use Rattle.books.specs.Lookups.{commodity_number, open_account, number_or_0, account_at}

@@ -1,5 +1,5 @@
 -- When each refusal is met, in the words of the list of refusals (docs/REFUSALS.md). The number stands before each.
-use Rattle.std.specs.Prelude.{ℕ, zero, suc, ◌+◌, Bool, true, false, not, ◌&&◌, ◌||◌, List, [], ◌∷◌, length, ℤ, pos, negsuc, ◌-ℤ◌, is_some, Some, None, Option, ◌==◌, nat_le, nat_lt}
+use Rattle.std.specs.Prelude.{ℕ, zero, suc, ◌+◌, Bool, true, false, not, ◌&&◌, ◌||◌, List, length, ℤ, pos, negsuc, ◌-ℤ◌, is_some, ◌==◌, nat_le, nat_lt}
 use Rattle.values.specs.Calendar.{is_day}
 use Rattle.values.specs.Names.{is_commodity_name, is_account_name}
 use Rattle.record.specs.Layout.{first_free, most_rows}
@@ -7,7 +7,7 @@ use Rattle.booking.specs.declared.posting.Posting.{Posting}
 use Rattle.booking.specs.declared.posting.PostingKind.{PostingKind}
 use Rattle.booking.specs.declared.posting.PostingKind.TheVariants.{Blank, Plain, Purchase, Reduction}
 use Rattle.booking.specs.Weighing.{is_zero, is_amount, own_agrees}
-use Rattle.books.specs.States.{Names, Books, Draft, State}
+use Rattle.books.specs.States.{Names, State}
 use Rattle.books.specs.Calls.{BracesGiven}
 use Rattle.books.specs.Lookups.{any, commodity_number, account_number, open_account, any_under, number_or_0, own_of, is_account, is_commodity}
 use Rattle.books.specs.Holdings.{holdings_under, is_empty_account}

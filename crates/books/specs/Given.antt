@@ -1,5 +1,4 @@
 -- A call of the code, without the addresses of its names.
-use Rattle.std.specs.Prelude.{ℕ, List, Option}
 use Rattle.std.specs.Option.{option_map}
 use Rattle.books.specs.declared.call.GivenCost.{GivenCost}
 use Rattle.books.specs.declared.call.GivenBraces.{GivenBraces}

@@ -1,12 +1,11 @@
 -- What accounts hold.
 use Rattle.std.specs.Prelude.{ℕ, zero, suc, ◌+◌, Bool, true, cond, not, ◌&&◌, List, [], ◌∷◌, ℤ, pos, ◌+ℤ◌, None, nat_eq}
 use Rattle.values.specs.Names.{lies_under}
-use Rattle.lots.specs.declared.rows.LotRow.{LotRow}
 use Rattle.matching.specs.Matching.{matches, units_matching}
 use Rattle.booking.specs.Postings.{wanted_lots}
 use Rattle.booking.specs.Weighing.{is_zero}
 use Rattle.booking.specs.Balances.{balance_in}
-use Rattle.books.specs.States.{Account, Names, Books}
+use Rattle.books.specs.States.{Account, Books}
 use Rattle.books.specs.Lookups.{any}
 
 -- the plain balance of an account in a commodity

@@ -1,5 +1,5 @@
 -- What can be asked of a ledger. Questions change nothing, and never show a draft.
-use Rattle.std.specs.Prelude.{ℕ, not, List, [], ◌∷◌, length, ℤ, is_some, Some, None, Ok, Err, Option, Result}
+use Rattle.std.specs.Prelude.{ℕ, List, [], ◌∷◌, length, ℤ, Some, None, Ok, Err, Option, Result}
 use Rattle.std.specs.Option.{ok_or}
 use Rattle.refusal.specs.declared.Fault.{Fault}
 use Rattle.refusal.specs.declared.Refusal.TheVariants.{NothingThere}

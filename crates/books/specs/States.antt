@@ -1,5 +1,5 @@
 -- The ledger as lists and numbers.
-use Rattle.std.specs.Prelude.{ℕ, Bool, List, [], ℤ, Some, None, Option}
+use Rattle.std.specs.Prelude.{ℕ, Bool, List, [], ℤ, None, Option}
 use Rattle.values.specs.declared.flag.Flag.{Flag}
 use Rattle.stock.specs.Tables.{Table, no_lots}
 use Rattle.booking.specs.declared.posting.Posting.{Posting}

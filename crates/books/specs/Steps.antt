@@ -1,7 +1,6 @@
 -- What a call answers and leaves, and runs of calls.
 use Rattle.std.specs.Prelude.{◌≡◌, ℕ, Bool, true, false, ◌&&◌, ◌||◌, ◌⊎◌, List, [], ◌∷◌, ◌++◌, Some, None, Option, nat_le}
 use Rattle.std.specs.List.{AllByRecursion as All}
-use Rattle.refusal.specs.declared.Refusal.{Refusal}
 use Rattle.refusal.specs.declared.Fault.{Fault}
 use Rattle.refusal.specs.Table.{number_of}
 use Rattle.matching.specs.Drawn.{AllPairs}

@@ -1,6 +1,5 @@
 -- What the plain values of the code stand for: names as bytes, accounts as the state has them, calls without addresses.
-use Rattle.std.specs.Prelude.{ℕ, List, take, Option}
-use Rattle.std.specs.Option.{option_map}
+use Rattle.std.specs.Prelude.{ℕ, List, take}
 use Rattle.books.specs.declared.name.Name.{Name}
 use Rattle.books.specs.declared.account.Account as kept
 use Rattle.books.specs.States.{Account}

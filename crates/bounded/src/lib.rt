@@ -1,2 +1,4 @@
 // A list of at most N elements, kept in place: no call allocates.
+#![tactic(auto)]
+
 pub mod list;

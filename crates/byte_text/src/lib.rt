@@ -1,4 +1,6 @@
 // Parts of a text and classes of its bytes. Every function answers at every index and on any bytes.
+#![tactic(auto)]
+
 ghost use Rattle.std.specs.Prelude.{◌≡◌, ◌-◌, ◌≤◌, min, length, take, drop, slice_index};
 ghost use Rattle.std.specs.Str.{bytes_eq};
 ghost use Rattle.byte_text.specs.Classes.{in_class, run_length, all_in};

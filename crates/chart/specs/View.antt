@@ -4,7 +4,7 @@ use Rattle.bounded.specs.Items.{items}
 use Rattle.books.specs.Changes.{closed}
 use Rattle.books.specs.View.{name_bytes, account_of}
 use Rattle.books.specs.Lookups.{account_at}
-use Rattle.books.specs.States.{Account, Names}
+use Rattle.books.specs.States.{Names}
 use Rattle.chart.specs.declared.table.Chart.{Chart}
 
 abbrev pub names_of : Chart → Names

@@ -1,3 +1,5 @@
 // The commodities as declared and the accounts as opened: found by name, added, closed.
+#![tactic(auto)]
+
 pub mod search;
 pub mod table;

@@ -8,7 +8,7 @@ use Rattle.fields.specs.Numbers.{number, number_at}
 use Rattle.fields.specs.Results.{map_ok}
 use Rattle.fields.specs.declared.fault.NumberFault.{NumberFault}
 use Rattle.fields.proofs.Denotations.{reading_denotes}
-use Rattle.fields.proofs.Options.{from_ok, from_err, none_some}
+use Rattle.fields.proofs.Options.{from_ok, from_err}
 
 -- a number in range makes an amount
 pub amount_made : (o : Option Amount) (z : ℤ) (f : NumberFault) → InRange z → options.MatchOption o (InRange z → ⊥) (λ a. InRange z × (a.hundredths ≡ z)) → map_ok (λ (a : Amount). a.hundredths) (options.ok_or o f) ≡ Ok z

@@ -1,5 +1,5 @@
 -- Date reading finds just the date that a text writes.
-use Rattle.std.proofs.Common.{◌≡◌, ℕ, ◌+◌, ◌*◌, ◌<◌, ◌≤◌, true, false, cond, ◌&&◌, eqb, List, [], ◌∷◌, ◌++◌, length, get_or, take, drop, Some, None, Ok, Err, Option, Result, sym, refl, ap, ◌∙◌, subst, arith, MatchResult}
+use Rattle.std.proofs.Common.{◌≡◌, ℕ, ◌+◌, ◌*◌, ◌<◌, ◌≤◌, true, false, ◌&&◌, eqb, List, [], ◌∷◌, ◌++◌, length, get_or, take, drop, Some, None, Ok, Err, Option, Result, sym, ap, ◌∙◌, subst, arith, MatchResult}
 use Rattle.std.specs.Option as options
 use Rattle.std.specs.List.{AllByRecursion as All}
 use Rattle.std.proofs.lemmas.List.{length-take-le, length-drop}
@@ -10,7 +10,7 @@ use Rattle.values.specs.declared.date.Date.{Date}
 use Rattle.values.proofs.Days.{day_parts, calendar_decides}
 use Rattle.fields.specs.Dates.{day_of, date, date_at}
 use Rattle.fields.specs.Decimal.{decimal}
-use Rattle.fields.specs.Denotes.{value, DateText, WritesDate}
+use Rattle.fields.specs.Denotes.{value, WritesDate}
 use Rattle.fields.specs.Results.{map_ok, bind}
 use Rattle.fields.specs.declared.fault.DateFault.{DateFault}
 use Rattle.fields.proofs.Denotations.{written, from_decimal}

@@ -1,15 +1,14 @@
 -- Number reading finds just what a text denotes.
-use Rattle.std.proofs.Common.{◌≡◌, ℕ, ◌+◌, ◌-◌, ◌*◌, ◌^◌, ◌<◌, ◌≤◌, Bool, true, false, cond, not, ◌&&◌, eqb, leb, List, [], ◌∷◌, ◌++◌, length, get_or, take, drop, ℤ, pos, neg_ℤ, Some, None, fold, Option, sym, refl, ap, ◌∙◌, ⊎_elim, mul-one, one-add, arith}
+use Rattle.std.proofs.Common.{◌≡◌, ℕ, ◌+◌, ◌-◌, ◌*◌, ◌^◌, ◌<◌, ◌≤◌, Bool, true, false, ◌&&◌, eqb, leb, List, [], ◌∷◌, ◌++◌, length, get_or, take, drop, ℤ, pos, neg_ℤ, Some, fold, sym, refl, ap, ◌∙◌, ⊎_elim, mul-one, one-add, arith}
 use Rattle.std.specs.Char.{is_ascii_digit}
 use Rattle.std.specs.Option.{option_map}
 use Rattle.std.specs.List.{AllByRecursion as All}
 use Rattle.std.proofs.lemmas.List.{take_at, drop_at, take-append-drop}
 use Rattle.std.proofs.lemmas.Bool.{cases_Bool, and_from, and_parts, le-leb, leb-true, eqb-true, cond-true, cond-false, ne_eqb}
-use Rattle.std.proofs.lemmas.Bool.Decides.{nat_tests}
 use Rattle.fields.specs.Decimal.{decimal, decimal_after}
 use Rattle.values.specs.Spelling.{Digit}
 use Rattle.values.proofs.Commodities.{within_decides}
-use Rattle.fields.specs.Denotes.{value, Numeral, Valid, sign, point, spelling, size, amount, Denotes}
+use Rattle.fields.specs.Denotes.{value, Valid, sign, point, size, amount, Denotes}
 use Rattle.byte_text.specs.Classes.{before}
 use Rattle.fields.specs.Numbers.{whole, fraction, unsigned, number}
 use Rattle.fields.proofs.Options.{none_some, from_bind, from_mapped, from_cond}

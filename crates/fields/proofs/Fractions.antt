@@ -1,5 +1,5 @@
 -- What stands behind the point: the text xs, and its digits ds.
-use Rattle.std.proofs.Common.{◌≡◌, ℕ, ◌+◌, ◌-◌, ◌*◌, ◌^◌, ◌<◌, ◌≤◌, List, length, drop, IfSome, Some, None, Option, ap, ◌∙◌, arith, length-drop}
+use Rattle.std.proofs.Common.{◌≡◌, ℕ, ◌+◌, ◌*◌, ◌^◌, ◌<◌, List, length, drop, IfSome, Some, Option, ap, ◌∙◌, arith, length-drop}
 use Rattle.std.specs.Option.{option_map}
 use Rattle.fields.specs.Decimal.{decimal}
 use Rattle.fields.specs.Numbers.{fraction}

@@ -1,5 +1,5 @@
 -- What an optional value came from.
-use Rattle.std.proofs.Common.{◌≡◌, Bool, true, false, cond, Some, None, Ok, Err, Option, Result, refl, ap, arith}
+use Rattle.std.proofs.Common.{◌≡◌, Bool, true, false, cond, Some, None, Ok, Err, Option, refl, arith}
 use Rattle.std.specs.Option.{option_map, ok_or}
 use Rattle.fields.specs.Results.{bind}
 

@@ -1,9 +1,9 @@
 -- Reading a quoted text finds just what stands between its quotes.
-use Rattle.std.proofs.Common.{◌≡◌, ℕ, suc, ◌+◌, ◌<◌, ◌≤◌, Bool, true, false, cond, not, ◌&&◌, ◌||◌, eqb, leb, List, [], ◌∷◌, ◌++◌, length, get_or, take, drop, IfOk, Some, None, Ok, Err, Option, Result, sym, refl, ap, ◌∙◌, subst, ⊎_elim, add-one, one-add, arith, MatchResult}
-use Rattle.std.specs.Option.{ok_or, option_map}
-use Rattle.std.specs.List.{prefix_len, AllByRecursion as All}
+use Rattle.std.proofs.Common.{◌≡◌, ℕ, suc, ◌+◌, ◌<◌, ◌≤◌, Bool, true, not, ◌&&◌, eqb, leb, List, [], ◌∷◌, ◌++◌, length, get_or, take, drop, IfOk, Some, None, Ok, Err, Result, sym, refl, ap, ◌∙◌, subst, ⊎_elim, add-one, arith, MatchResult}
+use Rattle.std.specs.Option.{option_map}
+use Rattle.std.specs.List.{AllByRecursion as All}
 use Rattle.std.proofs.lemmas.List.{take-append-drop, drop_more, drop-drop, get_or_past, drop_at, get_or_at, length-take, length-append}
-use Rattle.std.proofs.lemmas.Bool.{cases_Bool, cases_lt, and_parts, and_from, or_cases, or_left, or_right, not-true, eqb-true, eqb-false, eq-eqb, ne_eqb, le-leb, leb-true, cond-true}
+use Rattle.std.proofs.lemmas.Bool.{cases_lt, and_parts, and_from, or_cases, or_right, not-true, eqb-true, eqb-false, eq-eqb, ne_eqb, le-leb, leb-true, cond-true}
 use Rattle.byte_text.specs.Classes.{in_class, run_length}
 use Rattle.byte_text.specs.declared.ByteClass.TheVariants.{QuotedText}
 use Rattle.byte_text.proofs.Runs.{run_passes, run_made}

@@ -1,19 +1,18 @@
 -- A filled blank makes the weights sum to 0, and changes nothing else.
-use Rattle.std.proofs.Common.{◌≡◌, ℕ, zero, suc, ◌+◌, ◌-◌, ◌*◌, ◌/◌, ◌%◌, ◌<◌, ◌≤◌, Bool, true, false, cond, not, ◌&&◌, ◌||◌, eqb, leb, ◌⊎◌, List, [], ◌∷◌, ◌++◌, length, ℤ, pos, negsuc, ◌+ℤ◌, ◌*ℤ◌, neg_ℤ, nat_abs, Some, None, Option, sym, refl, ap, ◌∙◌, subst, inl, inr, ⊎_elim, arith}
+use Rattle.std.proofs.Common.{◌≡◌, ℕ, zero, suc, ◌+◌, ◌%◌, ◌<◌, ◌≤◌, Bool, true, false, cond, not, ◌&&◌, eqb, ◌⊎◌, List, [], ◌∷◌, length, ℤ, pos, negsuc, ◌+ℤ◌, ◌*ℤ◌, Option, sym, refl, ap, ◌∙◌, subst, inl, inr, ⊎_elim, arith}
 use native.Mathlib.Nat.{div-add-mod}
 use Rattle.std.specs.List.{AllByRecursion as All}
 use Rattle.std.proofs.lemmas.Int.{ints}
 use Rattle.std.proofs.lemmas.Bool.{and_parts, cond-true, cond-false, cond_both, cases_eq, cases_Bool, cases_order, eq-eqb, eqb-true, ne_eqb, both_ways, not-false}
-use Rattle.lots.specs.declared.rows.Key.{Key}
 use Rattle.matching.specs.Sums.{sum_of, sum_of_ints}
 use Rattle.matching.specs.Drawn.{Member}
 use Rattle.matching.proofs.Sums.{by_bool}
 use Rattle.booking.specs.declared.entry.Entry.{Entry}
 use Rattle.booking.specs.declared.entry.EntryKind.{EntryKind}
 use Rattle.booking.specs.declared.entry.EntryKind.TheVariants.{PlainAmount, Unfilled, Filled, Bought, Drew}
-use Rattle.booking.specs.Weighing.{kind_weight, weight_sum, is_zero, unbalanced, unbalanced_in, is_empty, is_unfilled, has_blank, filled_with, fill, blank_amount, is_whole, is_amount, own_agrees, can_fill, filled_by, complete}
+use Rattle.booking.specs.Weighing.{weight_sum, is_zero, unbalanced, unbalanced_in, is_empty, is_unfilled, has_blank, filled_with, fill, blank_amount, is_whole, is_amount, own_agrees, can_fill, filled_by, complete}
 use Rattle.law.proofs.Stocks.{lots_weight, lots_weight_sum}
-use Rattle.law.proofs.Plains.{AccountThere, PlaceThere, KindThere, EntryThere, in_commodity}
+use Rattle.law.proofs.Plains.{KindThere, EntryThere, in_commodity}
 
 pub zero_is : (z : ℤ) → is_zero z ≡ true → z ≡ pos 0
 zero_is (pos zero) e = refl

@@ -1,5 +1,5 @@
 -- Plain balances are what entries bring.
-use Rattle.std.proofs.Common.{◌≡◌, ℕ, zero, suc, ◌+◌, ◌-◌, ◌*◌, ◌<◌, ◌≤◌, Bool, true, false, cond, eqb, leb, ◌⊎◌, List, [], ◌∷◌, ◌++◌, length, get_or, set, ℤ, pos, ◌+ℤ◌, ◌*ℤ◌, neg_ℤ, sym, refl, ap, ◌∙◌, subst, inl, inr, ⊎_elim, arith, length-set}
+use Rattle.std.proofs.Common.{◌≡◌, ℕ, zero, suc, ◌<◌, ◌≤◌, Bool, cond, eqb, leb, List, [], ◌∷◌, length, get_or, set, ℤ, pos, ◌+ℤ◌, ◌*ℤ◌, sym, refl, ◌∙◌, subst, ⊎_elim, arith, length-set}
 use Rattle.std.specs.List.{AllByRecursion as All}
 use Rattle.std.proofs.lemmas.List.{get_or-set_same, get_or-set_other}
 use Rattle.std.proofs.lemmas.Int.{ints}
@@ -12,7 +12,6 @@ use Rattle.booking.specs.declared.entry.EntryKind.TheVariants.{PlainAmount, Unfi
 use Rattle.booking.specs.Weighing.{kind_weight, weight_sum}
 use Rattle.booking.specs.Balances.{balance_place, balance_in, add_amount, add_kind, balances_after}
 use Rattle.books.specs.States.{Books}
-use Rattle.books.specs.Holdings.{plain_balance}
 use Rattle.law.specs.Amounts.{amount_if, amount_of_kind, amount_settled, balances_to, BalancesAreSettled}
 use Rattle.law.proofs.Stocks.{lots_weight, lots_weight_sum}
 

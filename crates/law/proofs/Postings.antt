@@ -1,9 +1,9 @@
 -- What an accepted posting names is there, and a purchase has some units.
-use Rattle.std.proofs.Common.{◌≡◌, ℕ, zero, suc, ◌+◌, ◌<◌, ◌≤◌, Bool, true, false, not, ◌&&◌, leb, List, [], ◌∷◌, ◌++◌, length, ℤ, pos, negsuc, nat_abs, is_some, Some, None, Option, refl, arith}
+use Rattle.std.proofs.Common.{◌≡◌, ℕ, zero, suc, ◌≤◌, true, false, ◌&&◌, leb, List, [], ◌∷◌, length, ℤ, pos, negsuc, nat_abs, Some, None, Option, refl, arith}
 use Rattle.std.specs.Option.{option_map}
 use Rattle.std.specs.List.{AllByRecursion as All}
 use Rattle.std.specs.Str.{bytes_eq}
-use Rattle.std.proofs.ByRecursion.{All-append, All-push, All-weaker, All-map}
+use Rattle.std.proofs.ByRecursion.{All-append, All-weaker}
 use Rattle.std.proofs.lemmas.Bool.{both_ways, leb-true, not-false}
 use Rattle.refusal.specs.declared.Refusal.TheVariants.{BracesWithoutUse}
 use Rattle.lots.specs.declared.rows.Cost.{Cost}
@@ -15,15 +15,14 @@ use Rattle.stock.specs.Tables.{Table}
 use Rattle.booking.specs.declared.posting.Posting.{Posting}
 use Rattle.booking.specs.declared.posting.PostingKind.{PostingKind}
 use Rattle.booking.specs.declared.posting.PostingKind.TheVariants.{Blank, Plain, Purchase, Reduction}
-use Rattle.booking.specs.declared.entry.EntryKind.TheVariants.{Drew}
-use Rattle.booking.specs.Postings.{wanted_lots, table_after_posting, entry, draw_entries, entries_of_kind, entries_of_posting}
+use Rattle.booking.specs.Postings.{wanted_lots, table_after_posting, draw_entries, entries_of_kind, entries_of_posting}
 use Rattle.booking.specs.Booking.{entries_of}
-use Rattle.books.specs.States.{Account, Names, Draft, State}
+use Rattle.books.specs.States.{Names, Draft, State}
 use Rattle.books.specs.Calls.{CostGiven, BracesGiven, AmountGiven}
 use Rattle.books.specs.Lookups.{commodity_number, open_account, number_or_0}
 use Rattle.books.specs.Conditions.{bad_number, not_declared, not_open, braces_without_use}
 use Rattle.books.specs.Refusals.{if_given, cost_fields, braces_fields, cost_not_declared, posting_tests}
-use Rattle.books.specs.Changes.{cost_of, purchase_kind, kind_with_braces, kind_of_amount, posting_kind, posting_of}
+use Rattle.books.specs.Changes.{cost_of, kind_with_braces, kind_of_amount, posting_of}
 use Rattle.law.proofs.Plains.{AccountThere, PlaceThere, EntryThere}
 use Rattle.law.proofs.Serials.{SomeUnits, AllSome}
 use Rattle.law.proofs.Tests.{Unmet, all_front, all_right, number_there}

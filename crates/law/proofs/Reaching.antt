@@ -1,7 +1,6 @@
 -- Which posting settling reaches, and what it answers there.
-use Rattle.std.proofs.Common.{◌≡◌, ℕ, ◌+◌, ◌<◌, ◌≤◌, Bool, true, false, cond, not, ltb, leb, ◌⊎◌, List, [], ◌∷◌, ◌++◌, length, Some, None, Option, sym, refl, ap, ◌∙◌, subst, inl, inr, ⊎_elim, arith}
+use Rattle.std.proofs.Common.{◌≡◌, ℕ, ◌+◌, ◌<◌, ◌≤◌, Bool, true, false, cond, ltb, leb, ◌⊎◌, List, [], ◌∷◌, ◌++◌, length, Some, None, Option, sym, refl, ap, ◌∙◌, subst, inl, inr, ⊎_elim, arith}
 use Rattle.std.specs.Option.{option_map}
-use Rattle.std.specs.List.{AllByRecursion as All}
 use Rattle.std.proofs.lemmas.Bool.{cond-true, cond-false, cases_Bool, ltb-true, ltb-false, lt-ltb, le-ltb}
 use Rattle.refusal.specs.declared.Refusal.{Refusal}
 use Rattle.refusal.specs.declared.Refusal.TheVariants.{LotTooLarge, TooFewUnits, NotSettledByPolicy, TooManyLots}
@@ -9,7 +8,6 @@ use Rattle.refusal.specs.declared.Fault.{Fault}
 use Rattle.refusal.specs.Table.{number_of}
 use Rattle.lots.specs.declared.rows.Cost.{Cost}
 use Rattle.lots.specs.declared.rows.Key.{Key}
-use Rattle.lots.specs.declared.rows.LotRow.{LotRow}
 use Rattle.lots.specs.Rows.{most}
 use Rattle.lots.specs.Orders.{Order, Keeps}
 use Rattle.matching.specs.Matching.{matches, units_matching}
@@ -27,7 +25,7 @@ use Rattle.booking.specs.Postings.{purchase_key, wanted_lots, table_after_postin
 use Rattle.booking.specs.Booking.{at_line, or_else, first_fault}
 use Rattle.law.specs.Histories.{opened_by_kind}
 use Rattle.law.specs.Reductions.{draws_among, KindDraws, DrawsByPolicy, AsksTooMany, IsUnsettled, Reaches}
-use Rattle.law.proofs.Serials.{Sound, SomeUnits, AllSome, kind_sound}
+use Rattle.law.proofs.Serials.{Sound, AllSome, kind_sound}
 
 -- the number of a refusal, and of a fault, if there is one
 abbrev pub refusal_number : Option Refusal → Option ℕ

@@ -1,7 +1,7 @@
 -- What the record holds after a run.
-use Rattle.std.proofs.Common.{◌≡◌, ℕ, ◌+◌, ◌*◌, ◌≤◌, Bool, true, false, cond, not, ◌&&◌, ◌||◌, eqb, leb, List, [], ◌∷◌, ◌++◌, map, length, take, drop, is_some, Some, None, Option, sym, refl, ap, ◌∙◌, subst, ⊎_elim, arith}
+use Rattle.std.proofs.Common.{◌≡◌, ℕ, ◌+◌, ◌≤◌, Bool, true, false, cond, not, ◌&&◌, ◌||◌, eqb, leb, List, [], ◌∷◌, ◌++◌, map, length, take, drop, is_some, Some, None, Option, sym, refl, ap, ◌∙◌, subst, arith}
 use Rattle.std.specs.List.{AllByRecursion as All}
-use Rattle.std.proofs.lemmas.List.{append-nil, length-append, length-map, length-take-le}
+use Rattle.std.proofs.lemmas.List.{length-append, length-map, length-take-le}
 use Rattle.std.proofs.lemmas.Bool.{not-false, leb-true, both_ways}
 use Rattle.refusal.specs.declared.Fault.{Fault}
 use Rattle.refusal.specs.declared.Refusal.TheVariants.{NoSuchDraft, RecordTooShort}
@@ -14,16 +14,15 @@ use Rattle.record.specs.Layout.{header_length, first_free, header_bytes, rows_by
 use Rattle.booking.specs.Booking.{at_line, first_fault, fault_at}
 use Rattle.booking.specs.Balances.{first_met}
 use Rattle.booking.specs.Rows.{row_of, rows_of}
-use Rattle.books.specs.declared.outcome.Outcome.{Outcome}
 use Rattle.books.specs.States.{Draft, State, empty_ledger}
 use Rattle.books.specs.Calls.{Call, declaring, opening, asserting, closing, beginning, posting, settling, tearing, writing_header}
 use Rattle.books.specs.Conditions.{no_such_draft, record_too_short}
 use Rattle.books.specs.Refusals.{first_fault_met, if_given, draft_entries, whole_draft_tests, draft_tests, refusal}
-use Rattle.books.specs.Changes.{settled_entries, after_settling, change, reply}
+use Rattle.books.specs.Changes.{settled_entries, after_settling}
 use Rattle.books.specs.Steps.{answered, step, outcomes}
 use Rattle.books.specs.Recording.{header_of, transaction_of, draft_rows, record_after_settling, record_change, record_answered, record_after_call, record_after_calls}
 use Rattle.books.proofs.Nested.{draft_first}
-use Rattle.law.specs.Histories.{Settlement, History, no_history, accepted, with_settlement, after_accepted, after_call, history_after, all_entries, all_rows}
+use Rattle.law.specs.Histories.{Settlement, History, accepted, with_settlement, after_accepted, after_call, history_after, all_entries, all_rows}
 use Rattle.law.specs.Records.{writes, any_wrote, header_of_history, recorded, LentWithin, lend_within, RecordStands}
 use Rattle.law.proofs.Sums.{joined_push}
 use Rattle.law.proofs.Fills.{complete_length}

@@ -1,45 +1,44 @@
 -- The law over runs.
-use Rattle.std.proofs.Common.{◌≡◌, ℕ, ◌+◌, ◌-◌, ◌*◌, ◌<◌, ◌≤◌, Bool, true, false, cond, not, ◌&&◌, ◌||◌, leb, ◌⊎◌, List, [], ◌∷◌, ◌++◌, length, ℤ, pos, ◌+ℤ◌, ◌*ℤ◌, Some, None, Option, sym, refl, ap, ◌∙◌, subst, inl, inr, ⊎_elim, arith, length-append, length-set}
+use Rattle.std.proofs.Common.{◌≡◌, ℕ, ◌+◌, ◌-◌, ◌*◌, ◌≤◌, Bool, true, false, cond, not, ◌&&◌, List, [], ◌∷◌, ◌++◌, length, pos, Some, None, Option, sym, refl, ap, ◌∙◌, subst, arith, length-append, length-set}
 use Rattle.std.specs.Option.{option_map}
 use Rattle.std.specs.List.{AllByRecursion as All}
 use Rattle.std.proofs.lemmas.List.{get_or-replicate}
 use Rattle.std.proofs.ByRecursion.{All-append, All-push}
 use Rattle.std.proofs.lemmas.Int.{ints}
-use Rattle.std.proofs.lemmas.Bool.{or_parts, leb-false, cases_Bool, cond-true, cond-false}
+use Rattle.std.proofs.lemmas.Bool.{or_parts, leb-false, cond-true}
 use Rattle.refusal.specs.declared.Refusal.{Refusal}
 use Rattle.refusal.specs.declared.Refusal.TheVariants.{NoSuchDraft, BadCommodityName, BadAccountName, CommodityDeclaredAlready, CommodityNotDeclared, AccountOpenedBefore, BooksFull}
 use Rattle.refusal.specs.declared.Fault.{Fault}
 use Rattle.lots.specs.declared.rows.Key.{Key}
 use Rattle.lots.specs.Orders.{Order, Keeps}
 use Rattle.matching.specs.Sums.{sum_of}
-use Rattle.matching.proofs.Sums.{by_bool, sum_of_append}
+use Rattle.matching.proofs.Sums.{sum_of_append}
 use Rattle.stock.specs.Tables.{Table}
 use Rattle.booking.specs.declared.posting.Posting.{Posting}
 use Rattle.booking.specs.declared.posting.PostingKind.{PostingKind}
 use Rattle.booking.specs.declared.entry.Entry.{Entry}
-use Rattle.booking.specs.Booking.{table_after, entries_of, at_line, or_else, first_fault, fault_at}
+use Rattle.booking.specs.Booking.{entries_of, at_line, or_else, first_fault, fault_at}
 use Rattle.booking.specs.Weighing.{kind_weight, weight_sum, unbalanced_in, is_empty, has_blank, blank_account, blank_cannot_be_filled, complete}
 use Rattle.booking.specs.Balances.{first_met}
 use Rattle.books.specs.declared.outcome.Outcome.{Outcome}
-use Rattle.books.specs.declared.outcome.Outcome.TheVariants.{Declared, Opened, Begun, Settled, Done, Refused}
-use Rattle.books.specs.States.{Names, Books, Draft, State, empty_ledger}
+use Rattle.books.specs.States.{Books, Draft, State, empty_ledger}
 use Rattle.books.specs.Calls.{Call, declaring, opening, asserting, closing, beginning, posting, settling, tearing, writing_header, AmountGiven}
 use Rattle.books.specs.Lookups.{own_of}
 use Rattle.books.specs.Conditions.{no_such_draft, bad_commodity_name, bad_account_name, declared_already, not_declared, opened_before, commodities_full, accounts_full}
 use Rattle.books.specs.Refusals.{first_fault_met, if_given, dated_tests, posting_tests, draft_entries, whole_draft_tests, draft_tests, refusal}
-use Rattle.books.specs.Changes.{posting_of, with_posting, lots_after_draft, settled_entries, books_after_draft, after_settling, change, reply}
+use Rattle.books.specs.Changes.{posting_of, with_posting, books_after_draft, after_settling, change, reply}
 use Rattle.books.specs.Steps.{answered, step, state_after, outcomes}
 use Rattle.books.specs.Recording.{transaction_of}
 use Rattle.books.proofs.Nested.{draft_first}
 use Rattle.law.specs.Histories.{Settlement, History, no_history, accepted, opened_by, with_settlement, after_accepted, after_call, history_after, all_entries}
-use Rattle.law.specs.Amounts.{amount_of_kind, brought_by_kind, drawn_by_kind, lot_at_cost, BooksBalance, BalancesAreSettled, UnitsAreSettled, SerialOfOpening, KindBearsSerial}
+use Rattle.law.specs.Amounts.{amount_of_kind, brought_by_kind, drawn_by_kind, lot_at_cost, BooksBalance, BalancesAreSettled, UnitsAreSettled, KindBearsSerial}
 use Rattle.law.specs.Reductions.{AsksTooMany, IsUnsettled, Reaches, DraftReaches, DraftDraws, refused_number, RefusedWhere, Settling, IfSettling, EachSettling}
-use Rattle.law.specs.Laws.{Stands, Lawful, BooksStand}
+use Rattle.law.specs.Laws.{Stands, BooksStand}
 use Rattle.law.proofs.Sums.{sum_of_ints_append, joined_push}
 use Rattle.law.proofs.Stocks.{lots_weight, lots_weight_sum, postings_units, postings_at_cost}
-use Rattle.law.proofs.Plains.{PlaceThere, EntryThere, entries_weigh, balances_length, balances_at, balances_plain}
-use Rattle.law.proofs.Fills.{complete_balances, complete_sum, complete_lots_weight, complete_there, complete_all, complete_length}
-use Rattle.law.proofs.Serials.{Sound, LotOfOpening, bears_more, postings_sound, postings_bear}
+use Rattle.law.proofs.Plains.{EntryThere, entries_weigh, balances_length, balances_at, balances_plain}
+use Rattle.law.proofs.Fills.{complete_balances, complete_sum, complete_lots_weight, complete_there, complete_all}
+use Rattle.law.proofs.Serials.{Sound, bears_more, postings_sound, postings_bear}
 use Rattle.law.proofs.Reaching.{none_some, some_differ, fault_number, draft_draws, too_many_reached, too_many_reaching, unsettled_reached, unsettled_reaching}
 use Rattle.law.proofs.Tests.{Unmet, none_met, no_line, none_met_at, all_right, both_none, number_differs}
 use Rattle.law.proofs.Limits.{Within, postings_within, well_kept}

@@ -1,14 +1,13 @@
 -- Lots bear the serials of their openings, stand in their order, have different keys, and none is empty.
-use Rattle.std.proofs.Common.{◌≡◌, ℕ, zero, suc, ◌+◌, ◌-◌, ◌<◌, ◌≤◌, Bool, true, false, cond, not, ◌&&◌, ◌||◌, eqb, leb, List, [], ◌∷◌, ◌++◌, length, get_or, ℤ, sym, refl, ap, ◌∙◌, subst, arith, length-append}
+use Rattle.std.proofs.Common.{◌≡◌, ℕ, ◌+◌, ◌-◌, ◌<◌, ◌≤◌, Bool, true, false, cond, ◌||◌, leb, List, [], ◌∷◌, ◌++◌, length, sym, refl, ap, ◌∙◌, subst, arith, length-append}
 use Rattle.std.specs.List.{AllByRecursion as All}
 use Rattle.std.proofs.lemmas.List.{append-nil, append_assoc, get_or_append_left, get_or_push}
 use Rattle.std.proofs.ByRecursion.{All-weaker, All-push, All-append, All-map}
-use Rattle.std.proofs.lemmas.Bool.{cond_both, cond-true, cond-false, or_parts, leb-false, both_ways}
+use Rattle.std.proofs.lemmas.Bool.{cond_both, cond-false, or_parts, leb-false, both_ways}
 use Rattle.lots.specs.declared.rows.Key.{Key}
 use Rattle.lots.specs.declared.rows.LotRow.{LotRow}
 use Rattle.lots.specs.Rows.{same_key, with_more, with_fewer}
 use Rattle.lots.specs.Orders.{Order}
-use Rattle.matching.specs.declared.wanted.Draw.{Draw}
 use Rattle.matching.specs.Matching.{matches}
 use Rattle.matching.specs.Drawing.{gives, lots_left, draws_of}
 use Rattle.matching.specs.Drawn.{AllPairs, SerialsRise}
@@ -24,7 +23,7 @@ use Rattle.booking.specs.declared.posting.PostingKind.TheVariants.{Blank, Plain,
 use Rattle.booking.specs.declared.entry.Entry.{Entry}
 use Rattle.booking.specs.declared.entry.EntryKind.{EntryKind}
 use Rattle.booking.specs.declared.entry.EntryKind.TheVariants.{PlainAmount, Unfilled, Filled, Bought, Drew}
-use Rattle.booking.specs.Postings.{purchase_key, wanted_lots, table_after_kind, table_after_posting, entry, draw_entries, entries_of_kind, entries_of_posting}
+use Rattle.booking.specs.Postings.{purchase_key, wanted_lots, table_after_kind, table_after_posting, entry, entries_of_kind, entries_of_posting}
 use Rattle.booking.specs.Booking.{table_after, entries_of}
 use Rattle.law.specs.Histories.{opened_by_kind, opened_by}
 use Rattle.law.specs.Amounts.{SerialOfOpening, KindBearsSerial}

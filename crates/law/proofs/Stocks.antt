@@ -1,8 +1,7 @@
 -- What postings bring to lots and draw from them.
-use Rattle.std.proofs.Common.{◌≡◌, ℕ, ◌+◌, ◌-◌, ◌*◌, ◌≤◌, Bool, true, false, cond, eqb, List, [], ◌∷◌, ◌++◌, ℤ, pos, ◌+ℤ◌, neg_ℤ, Option, sym, refl, ap, ◌∙◌, subst, arith}
+use Rattle.std.proofs.Common.{◌≡◌, ℕ, ◌+◌, ◌-◌, ◌*◌, Bool, cond, eqb, List, [], ◌∷◌, ℤ, pos, ◌+ℤ◌, neg_ℤ, sym, refl, ap, ◌∙◌, subst, arith}
 use Rattle.std.proofs.lemmas.Int.{ints}
 use Rattle.std.proofs.lemmas.Bool.{cond_both}
-use Rattle.lots.specs.declared.rows.Cost.{Cost}
 use Rattle.lots.specs.declared.rows.Key.{Key}
 use Rattle.lots.specs.declared.rows.LotRow.{LotRow}
 use Rattle.lots.specs.Rows.{same_key}
@@ -13,7 +12,7 @@ use Rattle.matching.specs.Matching.{matches, units_if}
 use Rattle.matching.specs.Drawing.{gives, draws_of}
 use Rattle.matching.proofs.Sums.{by_bool, sum_of_append, sum_of_draws, gives_most}
 use Rattle.weights.specs.Weights.{purchase_weight, draw_weight, weight_in}
-use Rattle.stock.specs.Tables.{Table, of_key, units_of_key, serial_for}
+use Rattle.stock.specs.Tables.{Table, of_key, units_of_key}
 use Rattle.stock.proofs.Keeping.{key_same}
 use Rattle.booking.specs.declared.posting.Posting.{Posting}
 use Rattle.booking.specs.declared.posting.PostingKind.{PostingKind}
@@ -24,7 +23,7 @@ use Rattle.booking.specs.declared.entry.EntryKind.TheVariants.{PlainAmount, Unfi
 use Rattle.booking.specs.Postings.{purchase_key, wanted_lots, table_after_kind, table_after_posting, entry, draw_entries, entries_of_kind, entries_of_posting}
 use Rattle.booking.specs.Booking.{table_after, entries_of}
 use Rattle.law.specs.Amounts.{brought_by_kind, drawn_by_kind, units_brought, units_drawn, lot_at_cost}
-use Rattle.law.proofs.Sums.{sum_of_ints_append, sum_of_map, sum_of_ints_map, sum_of_zeros, sum_of_added, sum_of_left, times_add, times_less}
+use Rattle.law.proofs.Sums.{sum_of_ints_append, sum_of_map, sum_of_zeros, sum_of_added, sum_of_left, times_add, times_less}
 
 -- what an entry weighs by its lots alone
 abbrev pub lots_weight : ℕ → EntryKind → ℤ

@@ -1,5 +1,5 @@
 -- What a call that is not refused tells: no test of its table is met.
-use Rattle.std.proofs.Common.{◌≡◌, ℕ, ◌+◌, ◌<◌, ◌≤◌, Bool, true, false, cond, not, List, [], ◌∷◌, ◌++◌, length, is_some, Some, None, Option, sym, refl, ap, ◌∙◌, ⊎_elim, arith}
+use Rattle.std.proofs.Common.{◌≡◌, ℕ, ◌+◌, ◌<◌, ◌≤◌, Bool, true, false, cond, not, List, [], ◌∷◌, ◌++◌, length, is_some, Some, None, Option, sym, refl, ◌∙◌, ⊎_elim, arith}
 use Rattle.std.specs.List.{AllByRecursion as All}
 use Rattle.std.proofs.lemmas.Bool.{cases_Bool, cond-true, cond-false, cond_both, both_ways}
 use Rattle.refusal.specs.declared.Refusal.{Refusal}
@@ -9,9 +9,9 @@ use Rattle.matching.proofs.Sums.{by_bool}
 use Rattle.booking.specs.Booking.{at_line, or_else, fault_at}
 use Rattle.booking.specs.Balances.{first_met}
 use Rattle.books.specs.Lookups.{number_of_first, number_or_0}
-use Rattle.books.specs.Refusals.{Test, tests_at, first_fault_met}
+use Rattle.books.specs.Refusals.{tests_at, first_fault_met}
 use Rattle.books.proofs.Nested.{first_at}
-use Rattle.law.proofs.Reaching.{none_some, refusal_number, fault_number}
+use Rattle.law.proofs.Reaching.{none_some, fault_number}
 
 abbrev pub Unmet : List (Refusal × Bool) → Type 0
 Unmet ts = All (λ t. t.1 ≡ false) ts

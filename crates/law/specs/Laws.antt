@@ -1,5 +1,5 @@
 -- The law over runs. Its words are those of the history (`history_of`); `end` is the ledger after the last call, as the questions show it.
-use Rattle.std.specs.Prelude.{◌≡◌, ℕ, ◌+◌, List, length}
+use Rattle.std.specs.Prelude.{◌≡◌, ◌+◌, List, length}
 use Rattle.std.specs.List.{AllByRecursion as All}
 use Rattle.lots.specs.Orders.{Order, Keeps}
 use Rattle.stock.specs.Kept.{WellKept}

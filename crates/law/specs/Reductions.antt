@@ -1,5 +1,5 @@
 -- Reductions draw by the policy, and settling answers 22 and 23 exactly where it reaches a reduction that asks for it.
-use Rattle.std.specs.Prelude.{◌≡◌, ℕ, Bool, true, ◌⊎◌, List, [], ◌∷◌, Some, None, Option, ◌≢◌}
+use Rattle.std.specs.Prelude.{◌≡◌, ℕ, true, ◌⊎◌, List, [], ◌∷◌, Some, None, Option, ◌≢◌}
 use Rattle.std.specs.List.{flat_map}
 use Rattle.refusal.specs.Table.{number_of}
 use Rattle.lots.specs.Orders.{Order}

@@ -1,19 +1,17 @@
 -- A worked run under FIFO, and two settlings that are refused.
-use Rattle.std.specs.Prelude.{◌≡◌, ℕ, List, [], ◌∷◌, ◌++◌, replicate, ℤ, pos, neg_ℤ, Some, None, Ok, Err, codes, Option}
+use Rattle.std.specs.Prelude.{◌≡◌, ℕ, List, [], ◌∷◌, ◌++◌, replicate, ℤ, pos, neg_ℤ, Some, None, Ok, codes, Option}
 use Rattle.refusal.specs.declared.Refusal.{Refusal}
 use Rattle.refusal.specs.declared.Refusal.TheVariants.{NoSuchDraft, BadAccountName, GoesBack, AccountOpenedBefore, AccountNotOpen, NotBalanced, BlankCannotBeFilled, BalanceDiffers, AccountNotEmpty}
 use Rattle.values.specs.declared.flag.Flag.TheVariants.{Complete, Incomplete}
-use Rattle.lots.specs.declared.rows.Key.{Key}
 use Rattle.lots.specs.declared.rows.LotRow.{LotRow}
 use Rattle.lots.specs.Orders.{fifo, whole_lot}
-use Rattle.booking.specs.declared.entry.Entry.{Entry}
 use Rattle.booking.specs.declared.entry.EntryKind.TheVariants.{PlainAmount, Filled, Bought, Drew}
 use Rattle.booking.specs.Postings.{entry}
 use Rattle.booking.specs.Booking.{fault_at}
 use Rattle.books.specs.declared.outcome.Outcome.{Outcome}
 use Rattle.books.specs.declared.outcome.Outcome.TheVariants.{Declared, Opened, Begun, Settled, Done, Refused}
 use Rattle.books.specs.States.{empty_ledger}
-use Rattle.books.specs.Calls.{Call, declaring, opening, asserting, closing, beginning, posting, settling, tearing, BracesGiven, AmountGiven}
+use Rattle.books.specs.Calls.{Call, declaring, opening, asserting, closing, beginning, posting, settling, tearing, AmountGiven}
 use Rattle.books.specs.Steps.{state_after, outcomes}
 use Rattle.books.specs.Recording.{record_after_calls}
 use Rattle.books.specs.Questions.{holding_of, plain_balance_of}

@@ -1,4 +1,6 @@
 // The law over runs: what any list of calls on a new ledger leaves, for every policy that keeps the laws.
+#![tactic(auto)]
+
 ghost use Rattle.law.specs.Laws.{BooksStand, BooksStandUnder};
 ghost use Rattle.law.specs.Records.{RecordStands, RecordStandsUnder};
 ghost use Rattle.law.specs.Worked.{WorkedRun};

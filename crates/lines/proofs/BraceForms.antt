@@ -1,28 +1,27 @@
 -- What stands between braces is read as it is written.
-use Rattle.std.proofs.Common.{◌≡◌, ℕ, suc, ◌+◌, ◌-◌, ◌<◌, ◌≤◌, Bool, true, false, cond, not, ◌&&◌, eqb, ltb, leb, ◌⊎◌, List, [], ◌∷◌, ◌++◌, length, get_or, take, drop, ℤ, Some, None, Ok, Err, Option, Result, sym, refl, ap, ◌∙◌, subst, inl, inr, ⊎_elim, add-one, one-add, arith}
+use Rattle.std.proofs.Common.{◌≡◌, ℕ, suc, ◌+◌, ◌<◌, ◌≤◌, Bool, true, false, cond, not, ◌&&◌, eqb, ltb, leb, ◌⊎◌, List, [], ◌∷◌, ◌++◌, length, get_or, take, drop, ℤ, Some, None, Ok, Err, Option, sym, refl, ap, ◌∙◌, subst, ⊎_elim, one-add, arith}
 use Rattle.std.specs.Option.{option_map}
-use Rattle.std.specs.List.{prefix_len, AllByRecursion as All, list_all}
+use Rattle.std.specs.List.{prefix_len, AllByRecursion as All}
 use Rattle.std.proofs.ByRecursion.{All-append, All-weaker}
-use Rattle.std.proofs.lemmas.List.{take-append-drop, drop-drop, take_at, drop_at, length-take, length-drop, length-append, nil_from_length}
+use Rattle.std.proofs.lemmas.List.{take-append-drop, drop-drop, take_at, drop_at, length-take, length-append, nil_from_length}
 use Rattle.std.proofs.lemmas.List.Sums.{prefix_len-le-length}
-use Rattle.std.proofs.lemmas.Bool.{cases_Bool, cond-true, cond-false, and_parts, and_from, and_left, and_right, leb-true, le-leb, lt-leb, ltb-true, lt-ltb, le-ltb, eqb-true, eqb-false, eq-eqb, ne_eqb, not-true}
-use Rattle.std.proofs.lemmas.Bool.Decides.{nat_tests}
+use Rattle.std.proofs.lemmas.Bool.{cases_Bool, cond-true, cond-false, and_parts, and_from, and_left, and_right, leb-true, le-leb, ltb-true, lt-ltb, le-ltb, eqb-true, eqb-false, eq-eqb, ne_eqb, not-true}
 use Rattle.byte_text.specs.Classes.{in_class, all_in, run_length, before}
 use Rattle.byte_text.specs.declared.ByteClass.TheVariants.{Space, Except}
 use Rattle.byte_text.proofs.Runs.{Halts, run_passes, run_halts, run_made}
 use Rattle.values.specs.Spelling.{Starts, Capital, Digit, IsCommodityName}
 use Rattle.fields.specs.Dates.{date_at}
-use Rattle.fields.specs.Denotes.{Numeral, sign, point, Denotes, WritesDate}
+use Rattle.fields.specs.Denotes.{sign, point, Denotes, WritesDate}
 use Rattle.fields.specs.Numbers.{number_at, has_minus}
 use Rattle.fields.specs.Results.{bind, and_then}
 use Rattle.fields.specs.Spots.{Spot, commodity_at}
-use Rattle.lines.specs.Braces.{before_separator, is_word, Words, gap_end, two_words, Shape, no_part, cost_part, date_part, both_parts, word_at, part_after, part_before, two_parts, one_part, shape, cost_in, date_in, shaped, inside_by, inside}
+use Rattle.lines.specs.Braces.{before_separator, is_word, Words, gap_end, two_words, Shape, no_part, cost_part, date_part, both_parts, word_at, part_after, part_before, two_parts, one_part, shape, cost_in, date_in, inside_by, inside}
 use Rattle.lines.specs.Cuts.{missing}
 use Rattle.lines.specs.Grammar.{Spaces, Word, CostForm, BracesForm}
 use Rattle.lines.specs.Said.{CostSaid, BracesSaid, empty, cost, date, cost_and_date}
 use Rattle.lines.specs.declared.fault.CostFault.{CostFault}
 use Rattle.lines.specs.declared.fault.CostFault.TheVariants as fault
-use Rattle.lines.proofs.Fronts.{spaces_pass, pass_spaces, unlike_pass, pass_unlike, Opens, opens_halt}
+use Rattle.lines.proofs.Fronts.{spaces_pass, pass_spaces, unlike_pass, Opens, opens_halt}
 use Rattle.lines.proofs.Steps.{err_ok, same_ok, from_and_then, from_commodity, to_commodity, from_number, to_number, from_date, to_date, no_date, no_number}
 
 -- bytes of numbers, dates and commodities: none is a space, a comma or a brace

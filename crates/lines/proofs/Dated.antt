@@ -1,5 +1,5 @@
 -- Lines that start with a date say what they are written to say.
-use Rattle.std.proofs.Common.{◌≡◌, ℕ, ◌+◌, ◌<◌, ◌≤◌, Bool, true, false, cond, List, [], ◌∷◌, ◌++◌, length, drop, ℤ, Some, None, Ok, Err, codes, Option, Result, sym, refl, ap, ◌∙◌, subst, ⊎_elim, arith}
+use Rattle.std.proofs.Common.{◌≡◌, ℕ, ◌+◌, true, false, List, [], ◌∷◌, drop, ℤ, Some, None, Ok, Option, sym, ap, ◌∙◌, subst, ⊎_elim}
 use Rattle.std.proofs.lemmas.Bool.{cases_Bool, cond-true, cond-false}
 use Rattle.values.specs.Spelling.{IsCommodityName, IsAccountName}
 use Rattle.fields.specs.Denotes.{Denotes}
@@ -8,13 +8,13 @@ use Rattle.fields.specs.Results.{and_then}
 use Rattle.fields.specs.Spots.{Spot, commodity_at, account_at}
 use Rattle.lines.specs.Cuts.{field_at, field_end, missing}
 use Rattle.lines.specs.Directives.{commodity_from, own_from, open_from, close_from, balance_from}
-use Rattle.lines.specs.Grammar.{Spaces, Next, Front, Fields, CommodityForm, OpenForm, CloseForm}
+use Rattle.lines.specs.Grammar.{Fields, CommodityForm, OpenForm, CloseForm}
 use Rattle.lines.specs.Postings.{ends_at}
 use Rattle.lines.specs.Said.{Said, commodity, opening, closing, balance}
 use Rattle.lines.specs.declared.fault.DirectiveFault.{DirectiveFault}
 use Rattle.lines.specs.declared.fault.DirectiveFault.TheVariants as fault
-use Rattle.lines.proofs.Fronts.{none_found, none_only, next_found}
-use Rattle.lines.proofs.Steps.{err_ok, same_ok, from_and_then, from_commodity, to_commodity, from_account, to_account, from_number, to_number, no_commodity, no_account, no_number, present, ends_found, ends_only, found, fields_only, fields_end, fields_none, fields_more}
+use Rattle.lines.proofs.Fronts.{none_found, none_only}
+use Rattle.lines.proofs.Steps.{same_ok, from_and_then, from_commodity, to_commodity, from_account, to_account, from_number, to_number, no_commodity, no_account, no_number, present, ends_found, ends_only, found, fields_only, fields_end, fields_none, fields_more}
 
 module _ (line : List ℕ) where
   -- the field at an index, and what stands behind it

@@ -1,25 +1,22 @@
 -- Lines that are no postings say what they are written to say.
-use Rattle.std.proofs.Common.{◌≡◌, ℕ, ◌+◌, ◌<◌, ◌≤◌, Bool, true, false, cond, ◌&&◌, eqb, ◌⊎◌, List, [], ◌∷◌, ◌++◌, length, get_or, drop, Ok, Err, codes, Option, Result, sym, refl, ap, ◌∙◌, subst, inl, inr, ⊎_elim, arith}
+use Rattle.std.proofs.Common.{◌≡◌, ℕ, ◌+◌, ◌≤◌, Bool, true, false, cond, ◌&&◌, eqb, List, [], ◌∷◌, ◌++◌, length, get_or, drop, Ok, Err, codes, Result, sym, refl, ap, ◌∙◌, subst, arith}
 use Rattle.std.specs.Char.{is_ascii_digit}
 use Rattle.std.specs.List.{AllByRecursion as All}
 use Rattle.std.specs.Str.{bytes_eq}
 use Rattle.std.proofs.lemmas.Slice.Eq.{bytes_eq-Decides}
 use Rattle.std.proofs.lemmas.List.{nil_from_length}
-use Rattle.std.proofs.lemmas.Bool.{cases_Bool, cond-true, cond-false, and_parts, and_from, eqb-true, eq-eqb, ne_eqb}
-use Rattle.std.proofs.lemmas.Bool.Decides.{nat_tests}
-use Rattle.byte_text.specs.Classes.{in_class, run_length}
+use Rattle.std.proofs.lemmas.Bool.{and_parts, eqb-true, eq-eqb, ne_eqb}
+use Rattle.byte_text.specs.Classes.{run_length}
 use Rattle.byte_text.specs.declared.ByteClass.TheVariants.{Space}
 use Rattle.values.specs.Spelling.{Digit, Starts}
 use Rattle.values.proofs.Commodities.{within_decides}
 use Rattle.fields.specs.Dates.{date_at}
 use Rattle.fields.specs.Denotes.{WritesDate}
-use Rattle.fields.specs.Results.{and_then}
 use Rattle.fields.specs.Spots.{Spot}
 use Rattle.lines.specs.Cuts.{field_start, field_at, field_end}
 use Rattle.lines.specs.Directives.{by_word, dated_from, dated_line, directive_line, option_from, commodity_from, open_from, close_from, balance_from, transaction_from}
-use Rattle.lines.specs.Grammar.{Next, Front, Fields, Quoted, Dated, CommodityForm, OpenForm, CloseForm, OptionForm, Form, flag_sign}
+use Rattle.lines.specs.Grammar.{Next, Fields, Quoted, Dated, CommodityForm, OpenForm, CloseForm, Form, flag_sign}
 use Rattle.lines.specs.Said.{Said, booking_method, commodity, opening, closing, balance, transaction, posting, PostingSaid}
-use Rattle.values.specs.declared.flag.Flag.{Flag}
 use Rattle.values.specs.declared.flag.Flag.TheVariants.{Complete, Incomplete}
 use Rattle.lines.specs.declared.fault.DirectiveFault.{DirectiveFault}
 use Rattle.lines.specs.declared.fault.DirectiveFault.TheVariants as fault

@@ -1,7 +1,7 @@
 -- The first field of a text, found and written.
-use Rattle.std.proofs.Common.{◌≡◌, ℕ, ◌+◌, ◌<◌, ◌≤◌, Bool, true, false, not, eqb, List, [], ◌∷◌, ◌++◌, length, take, drop, sym, refl, ap, ◌∙◌, subst, ⊎_elim, append_assoc, arith}
-use Rattle.std.specs.List.{prefix_len, AllByRecursion as All, list_all}
-use Rattle.std.proofs.lemmas.List.{take-append-drop, drop-drop, take_at, drop_at, length-take, length-drop, length-append, append-nil, drop_all, nil_from_length}
+use Rattle.std.proofs.Common.{◌≡◌, ℕ, ◌+◌, ◌<◌, ◌≤◌, Bool, true, false, not, eqb, List, [], ◌∷◌, ◌++◌, length, take, drop, sym, refl, ap, ◌∙◌, subst, ⊎_elim, arith}
+use Rattle.std.specs.List.{prefix_len, AllByRecursion as All}
+use Rattle.std.proofs.lemmas.List.{take-append-drop, drop-drop, take_at, drop_at, length-take, append-nil, drop_all}
 use Rattle.std.proofs.lemmas.List.Sums.{prefix_len-le-length}
 use Rattle.std.proofs.lemmas.Bool.{eqb-true, eqb-false, eq-eqb, ne_eqb, not-true, cases_lt}
 use Rattle.byte_text.specs.Classes.{in_class, run_length, before}
@@ -9,7 +9,7 @@ use Rattle.byte_text.specs.declared.ByteClass.TheVariants.{Space, Except}
 use Rattle.byte_text.proofs.Runs.{Halts, run_passes, run_halts, run_made}
 use Rattle.fields.specs.Denotes.{FieldEnds}
 use Rattle.fields.specs.Spots.{Spot}
-use Rattle.lines.specs.Cuts.{field_start, field_end, field_text, field_at, rest_at, missing}
+use Rattle.lines.specs.Cuts.{field_start, field_end, field_text, field_at, missing}
 use Rattle.lines.specs.Grammar.{Spaces, Word, Next}
 
 -- spaces and the bytes of a word, tested and told

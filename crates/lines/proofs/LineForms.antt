@@ -1,7 +1,7 @@
 -- A line is read exactly as it is written.
-use Rattle.std.proofs.Common.{◌≡◌, ℕ, ◌+◌, ◌<◌, ◌≤◌, Bool, true, false, cond, ◌&&◌, eqb, leb, List, [], ◌∷◌, ◌++◌, length, get_or, drop, Some, None, Ok, Err, Decides, Option, Result, sym, refl, ap, ◌∙◌, subst, ⊎_elim, arith}
+use Rattle.std.proofs.Common.{◌≡◌, ℕ, ◌≤◌, Bool, true, false, ◌&&◌, eqb, leb, List, [], ◌∷◌, length, get_or, Some, None, Ok, Err, Decides, Option, Result, sym, refl, ap, ◌∙◌, subst, ⊎_elim, arith}
 use Rattle.std.specs.List.{AllByRecursion as All, list_all}
-use Rattle.std.proofs.lemmas.Bool.{cases_Bool, cond-true, cond-false, and_parts, and_from, and_left, and_right, leb-true, le-leb, eqb-true, eqb-false, eq-eqb, ne_eqb, false≢true}
+use Rattle.std.proofs.lemmas.Bool.{cases_Bool, cond-true, cond-false, and_parts, and_from, and_right, leb-true, le-leb, eqb-true, eqb-false, eq-eqb, ne_eqb, false≢true}
 use Rattle.std.proofs.lemmas.Bool.Decides.{Decides-eqb}
 use Rattle.std.proofs.ByRecursion.{Decides-by_and}
 use Rattle.byte_text.specs.Classes.{in_class, all_in, run_length}
@@ -13,10 +13,10 @@ use Rattle.fields.specs.Results.{and_then}
 use Rattle.fields.specs.Spots.{Spot}
 use Rattle.fields.proofs.Options.{none_some}
 use Rattle.refusal.specs.declared.Fault.{Fault}
-use Rattle.lines.specs.Cuts.{field_at, missing}
+use Rattle.lines.specs.Cuts.{missing}
 use Rattle.lines.specs.Directives.{directive_line}
 use Rattle.lines.specs.Faults.{directive_from_posting, fault_on}
-use Rattle.lines.specs.Grammar.{Spaces, PostingForm, Clean, Form, BlankLine, Written, ReadsExactly}
+use Rattle.lines.specs.Grammar.{Spaces, PostingForm, Clean, BlankLine, Written, ReadsExactly}
 use Rattle.lines.specs.Lines.{wrong_byte, line_kind, unless_wrong, posting_line, other_line, by_kind, line_says}
 use Rattle.lines.specs.Postings.{posting_of}
 use Rattle.lines.specs.Said.{Said, booking_method, commodity, opening, closing, balance, transaction, posting, PostingSaid, UnitsSaid}

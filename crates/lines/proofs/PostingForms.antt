@@ -1,31 +1,30 @@
 -- Posting lines say what they are written to say.
-use Rattle.std.proofs.Common.{◌≡◌, ℕ, suc, ◌+◌, ◌<◌, ◌≤◌, Bool, true, false, cond, not, ◌&&◌, eqb, List, [], ◌∷◌, ◌++◌, length, get_or, take, drop, ℤ, Some, None, Ok, Err, Option, Result, sym, refl, ap, ◌∙◌, subst, ⊎_elim, add-one, one-add, arith}
-use Rattle.std.specs.List.{prefix_len, AllByRecursion as All}
-use Rattle.std.proofs.lemmas.List.{take-append-drop, drop-drop, drop_more, take_at, drop_at, get_or_at, length-take, length-drop, length-append, get_or-take}
+use Rattle.std.proofs.Common.{◌≡◌, ℕ, ◌+◌, ◌<◌, ◌≤◌, true, false, cond, eqb, List, [], ◌∷◌, ◌++◌, length, get_or, take, drop, ℤ, Some, None, Ok, Err, Option, Result, sym, refl, ap, ◌∙◌, subst, ⊎_elim, one-add, arith}
+use Rattle.std.specs.List.{prefix_len}
+use Rattle.std.proofs.lemmas.List.{take-append-drop, drop-drop, drop_more, take_at, drop_at, length-take, length-drop, length-append, get_or-take}
 use Rattle.std.proofs.lemmas.List.Sums.{prefix_len-le-length}
 use Rattle.std.proofs.lemmas.Bool.{cases_Bool, cases_lt, cond-true, cond-false, eqb-true, eqb-false, eq-eqb, ne_eqb}
-use Rattle.byte_text.specs.Classes.{in_class, run_length, before}
+use Rattle.byte_text.specs.Classes.{in_class, before}
 use Rattle.byte_text.specs.declared.ByteClass.TheVariants.{Space, Except}
-use Rattle.byte_text.proofs.Runs.{Halts, run_passes, run_halts, run_made}
+use Rattle.byte_text.proofs.Runs.{run_passes, run_made}
 use Rattle.values.specs.Spelling.{IsCommodityName, IsAccountName}
 use Rattle.fields.specs.Denotes.{Denotes, FieldEnds}
 use Rattle.fields.specs.Numbers.{number_at}
 use Rattle.fields.specs.Quoted.{ends_field}
 use Rattle.fields.specs.Results.{and_then}
 use Rattle.fields.specs.Spots.{Spot, commodity_at, account_at}
-use Rattle.fields.proofs.Quotations.{ends_sound, ends_complete}
+use Rattle.fields.proofs.Quotations.{ends_complete}
 use Rattle.lines.specs.Braces.{inside}
 use Rattle.lines.specs.Cuts.{field_start, field_text, field_at, field_end, missing}
 use Rattle.lines.specs.Faults.{posting_from_cost}
-use Rattle.lines.specs.Grammar.{Spaces, Next, Front, Fields, BracesForm, Braced, UnitsForm, PostingForm}
+use Rattle.lines.specs.Grammar.{Spaces, BracesForm, Braced, UnitsForm, PostingForm}
 use Rattle.lines.specs.Postings.{ends_at, closed, braces_from, braces_at, units_at, posting_of}
 use Rattle.lines.specs.Said.{BracesSaid, UnitsSaid, PostingSaid}
-use Rattle.lines.specs.declared.fault.CostFault.{CostFault}
 use Rattle.lines.specs.declared.fault.PostingFault.{PostingFault}
 use Rattle.lines.specs.declared.fault.PostingFault.TheVariants as fault
 use Rattle.lines.proofs.Fronts.{here, gap_length, body, at_start, text_is, start_is, spaces_pass, pass_spaces, unlike_pass, none_found, none_only, next_only}
 use Rattle.lines.proofs.Steps.{err_ok, same_ok, from_and_then, from_account, to_account, from_commodity, to_commodity, from_number, to_number, no_account, no_commodity, no_number, present, ends_found, ends_only, found, front_only, fields_only, fields_end, fields_none}
-use Rattle.lines.proofs.Dated.{more, last}
+use Rattle.lines.proofs.Dated.{more}
 use Rattle.lines.proofs.BraceForms.{inside_sound, inside_complete, braces_unlike}
 
 -- spaces end a field

@@ -1,5 +1,5 @@
 -- The steps of looking for a comma with a space behind it.
-use Rattle.std.proofs.Common.{◌≡◌, ℕ, ◌+◌, ◌<◌, ◌≤◌, Bool, true, false, cond, ◌&&◌, eqb, List, ◌∷◌, length, get_or, drop, sym, ap, ◌∙◌, add-zero, arith}
+use Rattle.std.proofs.Common.{◌≡◌, ℕ, ◌+◌, ◌<◌, ◌≤◌, true, false, cond, ◌&&◌, eqb, List, length, get_or, drop, ap, ◌∙◌, add-zero}
 use Rattle.std.proofs.lemmas.List.{at_drop_more, at_drop_all, get_or-drop}
 use Rattle.std.proofs.lemmas.Bool.{cond-true, cond-false}
 use Rattle.lines.specs.Braces.{separates, before_separator}

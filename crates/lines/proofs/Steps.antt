@@ -1,8 +1,8 @@
 -- Fields read one after another, and what each reader finds.
-use Rattle.std.proofs.Common.{◌≡◌, ℕ, ◌+◌, ◌<◌, ◌≤◌, Bool, true, false, cond, eqb, List, [], ◌∷◌, ◌++◌, length, take, drop, ℤ, Some, None, Ok, Err, Option, Result, sym, refl, ap, ◌∙◌, subst, ⊎_elim, arith}
+use Rattle.std.proofs.Common.{◌≡◌, ℕ, ◌+◌, Bool, true, false, cond, List, [], ◌∷◌, drop, ℤ, Ok, Err, Option, Result, sym, refl, ap, subst, arith}
 use Rattle.std.specs.Option.{ok_or}
 use Rattle.std.proofs.lemmas.List.{nil_from_length}
-use Rattle.std.proofs.lemmas.Bool.{cases_Bool, cond-true, cond-false, ne_eqb, eqb-true, false≢true}
+use Rattle.std.proofs.lemmas.Bool.{cond-true, ne_eqb, false≢true}
 use Rattle.values.specs.Names.{is_commodity_name, is_account_name}
 use Rattle.values.specs.Spelling.{IsCommodityName, IsAccountName}
 use Rattle.values.proofs.Accounts.{account_decides}
@@ -13,7 +13,6 @@ use Rattle.fields.specs.Numbers.{number, number_at}
 use Rattle.fields.specs.Results.{and_then}
 use Rattle.fields.specs.Spots.{Spot, commodity_at, account_at}
 use Rattle.fields.specs.declared.fault.DateFault.{DateFault}
-use Rattle.fields.specs.declared.fault.NameFault.{NameFault}
 use Rattle.fields.specs.declared.fault.NumberFault.{NumberFault}
 use Rattle.fields.proofs.Days.{reading_dates}
 use Rattle.fields.proofs.Denotations.{reading_denotes}

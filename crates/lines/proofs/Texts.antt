@@ -1,10 +1,10 @@
 -- Quoted texts in a line, found and written: transactions and the option.
-use Rattle.std.proofs.Common.{◌≡◌, ℕ, ◌+◌, ◌<◌, ◌≤◌, Bool, true, false, cond, ◌⊎◌, List, [], ◌∷◌, ◌++◌, length, take, drop, Some, None, Ok, Err, codes, Option, Result, sym, refl, ap, ◌∙◌, subst, inl, inr, ⊎_elim, arith}
+use Rattle.std.proofs.Common.{◌≡◌, ℕ, ◌+◌, true, false, cond, List, ◌∷◌, ◌++◌, length, take, drop, Some, None, Ok, Err, codes, Option, Result, sym, refl, ap, ◌∙◌, subst, ⊎_elim, arith}
 use Rattle.std.specs.Option.{ok_or, option_map}
 use Rattle.std.specs.List.{prefix_len}
 use Rattle.std.specs.Str.{bytes_eq}
 use Rattle.std.proofs.lemmas.Slice.Eq.{bytes_eq-Decides}
-use Rattle.std.proofs.lemmas.List.{take-append-drop, drop-drop, take_at, drop_at, length-take, length-append}
+use Rattle.std.proofs.lemmas.List.{take-append-drop, drop-drop, take_at, drop_at, length-take}
 use Rattle.std.proofs.lemmas.List.Sums.{prefix_len-le-length}
 use Rattle.std.proofs.lemmas.Bool.{cases_Bool}
 use Rattle.byte_text.specs.Classes.{in_class}
@@ -27,7 +27,7 @@ use Rattle.lines.specs.declared.directive.Method.{Method}
 use Rattle.lines.specs.declared.directive.Method.TheVariants.{Strict, Fifo, Lifo}
 use Rattle.lines.specs.declared.fault.DirectiveFault.{DirectiveFault}
 use Rattle.lines.specs.declared.fault.DirectiveFault.TheVariants as fault
-use Rattle.lines.proofs.Fronts.{gap_length, here, body, at_start, start_is, spaces_pass, pass_spaces, opens_halt, same_spot}
+use Rattle.lines.proofs.Fronts.{gap_length, here, at_start, start_is, spaces_pass, pass_spaces, same_spot}
 use Rattle.lines.proofs.Steps.{err_ok, same_ok, from_and_then, ends_found, ends_only}
 
 same_some : {A : Type 0} {x y : A} → Some x ≡ Some y → x ≡ y

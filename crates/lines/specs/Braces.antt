@@ -5,16 +5,12 @@ use Rattle.byte_text.specs.Classes.{run_length, all_in, before}
 use Rattle.byte_text.specs.declared.ByteClass.TheVariants.{Space, Except}
 use Rattle.fields.specs.Dates.{date_at}
 use Rattle.fields.specs.Numbers.{number_at, has_minus}
-use Rattle.fields.specs.Quoted.{ends_field}
 use Rattle.fields.specs.Results.{bind, and_then}
 use Rattle.fields.specs.Spots.{Spot, commodity_at}
-use Rattle.lines.specs.Cuts.{field_at, missing}
-use Rattle.lines.specs.Faults.{posting_from_cost}
+use Rattle.lines.specs.Cuts.{missing}
 use Rattle.lines.specs.Said.{CostSaid, BracesSaid, empty, cost, date, cost_and_date}
 use Rattle.lines.specs.declared.fault.CostFault.{CostFault}
 use Rattle.lines.specs.declared.fault.CostFault.TheVariants as fault
-use Rattle.lines.specs.declared.fault.PostingFault.{PostingFault}
-use Rattle.lines.specs.declared.fault.PostingFault.TheVariants as posting_fault
 
 -- a comma stands at an index, and a space behind it
 abbrev pub separates : List ℕ → ℕ → Bool

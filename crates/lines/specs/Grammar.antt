@@ -5,7 +5,7 @@ use Rattle.refusal.specs.declared.Fault.{Fault}
 use Rattle.values.specs.Spelling.{Starts, IsCommodityName, IsAccountName}
 use Rattle.fields.specs.Denotes.{Denotes, WritesDate, FieldEnds, Quotes}
 use Rattle.fields.specs.Spots.{Spot}
-use Rattle.lines.specs.Said.{Said, booking_method, commodity, opening, closing, balance, transaction, posting, CostSaid, BracesSaid, empty, cost, date, cost_and_date, UnitsSaid, PostingSaid}
+use Rattle.lines.specs.Said.{Said, booking_method, commodity, opening, closing, balance, transaction, posting, CostSaid, BracesSaid, empty, cost, date, cost_and_date, UnitsSaid}
 use Rattle.lines.specs.declared.directive.Method.{Method}
 use Rattle.lines.specs.declared.directive.Method.TheVariants.{Strict, Fifo, Lifo}
 use Rattle.values.specs.declared.flag.Flag.{Flag}

@@ -1,5 +1,5 @@
 -- A journal's lines, the kind of each, and what each says. Assumes nothing.
-use Rattle.std.specs.Prelude.{ℕ, ◌+◌, min, Bool, cond, ◌&&◌, List, [], ◌∷◌, length, Some, None, Ok, Err, Option, Result, ◌==◌, nat_le, slice_index}
+use Rattle.std.specs.Prelude.{ℕ, ◌+◌, min, cond, ◌&&◌, List, [], ◌∷◌, length, Some, None, Ok, Err, Option, Result, ◌==◌, nat_le, slice_index}
 use Rattle.byte_text.specs.Classes.{run_length, all_in}
 use Rattle.byte_text.specs.declared.ByteClass.TheVariants.{Printable, Space}
 use Rattle.values.specs.Names.{split_at}

@@ -1,10 +1,10 @@
 -- Posting lines. Assumes nothing.
-use Rattle.std.specs.Prelude.{ℕ, ◌+◌, Bool, cond, not, List, length, take, drop, Some, None, Ok, Err, Option, Result, ◌==◌, slice_index}
+use Rattle.std.specs.Prelude.{ℕ, ◌+◌, cond, List, length, take, drop, Some, None, Ok, Err, Option, Result, ◌==◌, slice_index}
 use Rattle.byte_text.specs.Classes.{before}
 use Rattle.fields.specs.Numbers.{number_at}
 use Rattle.fields.specs.Quoted.{ends_field}
 use Rattle.fields.specs.Results.{and_then}
-use Rattle.fields.specs.Spots.{Spot, commodity_at, account_at}
+use Rattle.fields.specs.Spots.{commodity_at, account_at}
 use Rattle.lines.specs.Braces.{inside}
 use Rattle.lines.specs.Cuts.{field_at, field_end, missing}
 use Rattle.lines.specs.Faults.{posting_from_cost}

@@ -1,4 +1,6 @@
 // A journal's text: cut into lines, and each line read into what it says or into its one fault.
+#![tactic(auto)]
+
 mod braces;
 mod cut;
 pub mod directive;

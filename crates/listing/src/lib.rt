@@ -1,4 +1,6 @@
 // How programs print amounts, dates, lines and refusals.
+#![tactic(auto)]
+
 use fields::field::Field;
 use lines::directive::{Braces, Cost, Directive, Method, Posting, Units};
 use refusal::Fault;

@@ -1,4 +1,6 @@
 // lotbook: reads a journal from standard input and prints what each line says, or how it is refused.
+#![tactic(auto)]
+
 use byte_text::front;
 use lines::directive::Directive;
 use lines::journal::{check_journal, split_line};

@@ -1,12 +1,12 @@
 -- A list as the part before one element, that element, and the part behind it.
-use Rattle.std.proofs.Common.{◌≡◌, ℕ, zero, suc, ◌+◌, ◌<◌, Bool, true, false, not, List, [], ◌∷◌, ◌++◌, length, get_or, take, drop, set, sym, refl, ap, ◌∙◌, subst, arith, length-append}
-use Rattle.std.specs.List.{remove, AllByRecursion as All}
+use Rattle.std.proofs.Common.{◌≡◌, ℕ, zero, suc, ◌+◌, ◌<◌, Bool, true, false, not, List, [], ◌∷◌, ◌++◌, length, get_or, take, drop, set, refl, ap, ◌∙◌, subst, arith}
+use Rattle.std.specs.List.{AllByRecursion as All}
 use Rattle.std.proofs.ByRecursion.{All-weaker, All-push}
 use Rattle.lots.specs.declared.rows.LotRow.{LotRow}
 use Rattle.lots.specs.Orders.{Order, Keeps}
 use Rattle.lots.specs.Rows.{no_lot}
 use Rattle.matching.specs.Places.{EarliestAt}
-use Rattle.matching.specs.Drawn.{AllPairs, SerialsRise, Member, Earliest}
+use Rattle.matching.specs.Drawn.{AllPairs, SerialsRise}
 use Rattle.matching.proofs.Drawing.{all_from_member}
 use Rattle.matching.proofs.Earliest.{earliest_at}
 use Rattle.matching.proofs.Steps.{Leads}

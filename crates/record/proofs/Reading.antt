@@ -6,8 +6,8 @@ use Rattle.std.proofs.lemmas.List.{drop_at, drop-drop, append_assoc, length-appe
 use Rattle.std.proofs.lemmas.Int.{to_z-of_z}
 use Rattle.record.specs.declared.header.Header.{Header}
 use Rattle.record.specs.declared.rows.Row.{Row}
-use Rattle.record.specs.Layout.{header_length, row_length, first_free, most_rows, le2, le4, row_bytes, rows_bytes, header_bytes}
-use Rattle.record.specs.Promises.{from_le, number_at, signed_at, HeaderReads, RowReads, RowsRead, Sized, AllSized, SizedHeader}
+use Rattle.record.specs.Layout.{first_free, most_rows, le2, le4, row_bytes, rows_bytes, header_bytes}
+use Rattle.record.specs.Promises.{from_le, number_at, HeaderReads, RowReads, RowsRead, Sized, AllSized, SizedHeader}
 use Rattle.record.proofs.Written.{rows_bytes_length}
 
 le2_read : (n : ℕ) → n < 2 ^ 16 → from_le (le2 n) ≡ n

@@ -1,5 +1,5 @@
 -- Bytes written behind one another, and over a part of a record.
-use Rattle.std.proofs.Common.{◌≡◌, ℕ, ◌+◌, ◌-◌, ◌*◌, ◌<◌, ◌≤◌, List, [], ◌∷◌, ◌++◌, length, get_or, take, drop, pos, sym, refl, ap, ◌∙◌, subst, arith}
+use Rattle.std.proofs.Common.{◌≡◌, ℕ, ◌+◌, ◌-◌, ◌*◌, ◌<◌, List, [], ◌∷◌, ◌++◌, length, get_or, take, drop, pos, sym, refl, ap, ◌∙◌, subst, arith}
 use borrow.Rule.Slice.PartMut.{put_mid}
 use Rattle.std.proofs.lemmas.List.{take_more, append_assoc, append-nil, length-append, length-take-le, take_at, drop_at, drop-drop, take_rest, drop_all, length-drop, get_or_at}
 use Rattle.values.specs.declared.flag.Flag.TheVariants.{Complete}

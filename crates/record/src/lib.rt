@@ -1,5 +1,7 @@
 // The booking record's bytes (docs/RECORD.md): rows, the header, and the room that both need.
 // Parameters call the record `book`, since `record` is a word of the contracts' language. No call reads what it holds.
+#![tactic(auto)]
+
 ghost use Rattle.std.specs.Prelude.{◌≡◌, ◌+◌, length};
 ghost use Rattle.record.specs.Layout.{room_for, header_after, record_after, if_ok};
 ghost use Rattle.record.specs.Promises.{Appended, Headed, Room, WhenOk};

@@ -1,4 +1,6 @@
 // Writes the example of docs/RECORD.md and a draw behind it, tries what is refused, and prints every byte of the record after each call.
+#![tactic(auto)]
+
 use record::header::Header;
 use record::rows::{LotFields, Row, RowKind};
 use record::{HEADER_LEN, ROW_LEN, append_rows, room_for, write_header};

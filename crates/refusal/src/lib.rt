@@ -1,4 +1,6 @@
 // Why a call is refused: the closed list of refusals, each with its number and its layer.
+#![tactic(auto)]
+
 ghost use Rattle.std.specs.Prelude.{◌≡◌};
 ghost use Rattle.refusal.specs.Table.{number_of, layer_of, name_of, Alone};
 

@@ -1,18 +1,16 @@
 -- What always holds of the open lots, as a test and in words, and what keeps it so.
-use Rattle.std.proofs.Common.{◌≡◌, ℕ, suc, ◌+◌, ◌<◌, ◌≤◌, Bool, true, false, not, ◌&&◌, eqb, ltb, leb, List, [], ◌∷◌, ◌++◌, length, get_or, take, drop, set, Some, None, Option, sym, refl, ap, ◌∙◌, subst, ⊎_elim, arith}
+use Rattle.std.proofs.Common.{◌≡◌, ℕ, suc, ◌+◌, ◌<◌, ◌≤◌, Bool, true, false, not, ◌&&◌, eqb, ltb, leb, List, [], ◌∷◌, ◌++◌, length, get_or, take, drop, set, Some, None, refl, ap, ◌∙◌, subst, ⊎_elim, arith}
 use Rattle.std.specs.List.{remove, AllByRecursion as All, list_all}
 use Rattle.std.proofs.ByRecursion.{All-weaker, All-push}
 use Rattle.std.proofs.lemmas.Bool.{and_parts, and_from, not-true, not_from_false, leb-true, le-leb, ltb-true, lt-ltb, eqb-true, eq-eqb, both_ways, cases_Bool, cond-true, cond-false, leb-false}
 use Rattle.std.proofs.lemmas.List.{length_push}
-use Rattle.lots.specs.declared.rows.Cost.{Cost}
 use Rattle.lots.specs.declared.rows.Key.{Key}
 use Rattle.lots.specs.declared.rows.LotRow.{LotRow}
 use Rattle.lots.specs.Rows.{most, in_range, same_cost, same_key, no_lot, with_units, with_fewer, with_more, row_of, grown, shrunk}
 use Rattle.lots.specs.declared.lot.Lot.{Lot}
-use Rattle.matching.specs.Drawn.{AllPairs, SerialsRise}
+use Rattle.matching.specs.Drawn.{AllPairs}
 use Rattle.matching.proofs.Splits.{split_at, set_at, length_split, all_here, all_without, all_replaced, pairs_without, pairs_replaced, pairs_push}
-use Rattle.stock.specs.Tables.{Table}
-use Rattle.stock.specs.Kept.{WellKept, KeysDiffer, pairs_pass, serial_given, well_kept}
+use Rattle.stock.specs.Kept.{WellKept, pairs_pass, serial_given, well_kept}
 
 -- keys
 pub key_same : (a b : Key) → same_key a b ≡ true → a ≡ b

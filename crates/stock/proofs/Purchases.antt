@@ -8,8 +8,7 @@ use Rattle.refusal.specs.declared.Refusal.TheVariants.{LotTooLarge, TooManyLots}
 use Rattle.lots.specs.declared.rows.Key.{Key}
 use Rattle.lots.specs.declared.rows.LotRow.{LotRow}
 use Rattle.lots.specs.Rows.{most, same_key, no_lot, with_more}
-use Rattle.matching.specs.Matching.{units_if, units_matching}
-use Rattle.matching.specs.Drawn.{AllPairs}
+use Rattle.matching.specs.Matching.{units_if}
 use Rattle.matching.proofs.Sums.{by_bool}
 use Rattle.matching.proofs.Drawing.{sum_of_zero_all}
 use Rattle.matching.proofs.Steps.{sum_of_split}

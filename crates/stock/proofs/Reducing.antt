@@ -1,5 +1,5 @@
 -- What the closed form of a reduction promises.
-use Rattle.std.proofs.Common.{◌≡◌, ℕ, ◌<◌, ◌≤◌, Bool, true, false, cond, ltb, List, Some, None, Option, Result, sym, refl, ap, ◌∙◌, subst, arith}
+use Rattle.std.proofs.Common.{◌≡◌, ℕ, ◌<◌, ◌≤◌, Bool, true, false, cond, ltb, List, Some, None, Option, Result, sym, refl, subst, arith}
 use Rattle.std.proofs.lemmas.Bool.{both_ways, ltb-true, ltb-false}
 use Rattle.refusal.specs.declared.Refusal.{Refusal}
 use Rattle.refusal.specs.declared.Refusal.TheVariants.{TooFewUnits, NotSettledByPolicy}
@@ -14,7 +14,7 @@ use Rattle.matching.proofs.Sums.{by_bool}
 use Rattle.matching.proofs.Drawing.{closed_form_is_drawn}
 use Rattle.matching.proofs.Earliest.{unsettled_from, unsettled_to, settled_one}
 use Rattle.stock.specs.Tables.{Table, answered, reduced, table_after_reduction}
-use Rattle.stock.specs.Promises.{refused_by, RefusedExactly, DrawsEarliestFirst, AcceptedWithOneMatch, KeptIfRefused}
+use Rattle.stock.specs.Promises.{RefusedExactly, DrawsEarliestFirst, AcceptedWithOneMatch, KeptIfRefused}
 use Rattle.stock.specs.Kept.{WellKept}
 use Rattle.stock.proofs.Keeping.{some_units}
 

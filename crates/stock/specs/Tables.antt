@@ -1,6 +1,6 @@
 -- The open lots, and what a purchase and a reduction answer and leave.
 -- Each has three parts: which refusal it meets, if any; what an accepted one leaves; what it answers.
-use Rattle.std.specs.Prelude.{ℕ, ◌+◌, Bool, true, false, cond, ◌||◌, List, [], ◌∷◌, length, Some, None, Ok, Err, Option, Result, ◌==◌, nat_le, nat_lt}
+use Rattle.std.specs.Prelude.{ℕ, ◌+◌, Bool, false, cond, ◌||◌, List, [], ◌∷◌, length, Some, None, Ok, Err, Option, Result, ◌==◌, nat_le, nat_lt}
 use Rattle.refusal.specs.declared.Refusal.{Refusal}
 use Rattle.refusal.specs.declared.Refusal.TheVariants.{LotTooLarge, TooFewUnits, NotSettledByPolicy, TooManyLots}
 use Rattle.lots.specs.declared.rows.Key.{Key}

@@ -1,2 +1,4 @@
 // The open lots: purchases, reductions and questions.
+#![tactic(auto)]
+
 pub mod table;

@@ -1,5 +1,7 @@
 // Holds the reading of lines to a table of cases on standard input: a line's number, what is expected of it and its
 // text, with tabs between. In the text %HH stands for the byte HH. Rows that are empty or start with # are passed over.
+#![tactic(auto)]
+
 use byte_text::{ByteClass, after, byte_at, front, run_of, same};
 use lines::journal::split_line;
 use lines::line::read_line;

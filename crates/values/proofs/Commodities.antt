@@ -1,11 +1,11 @@
 -- A commodity's name is spelled as it is tested.
-use Rattle.std.proofs.Common.{◌≡◌, ℕ, ◌≤◌, true, ◌&&◌, leb, ◌⊎◌, List, [], ◌∷◌, length, get_or, Decides, refl, arith}
-use Rattle.std.specs.Char.{is_ascii_uppercase, is_ascii_digit}
-use Rattle.std.specs.List.{AllByRecursion as All, list_all}
+use Rattle.std.proofs.Common.{ℕ, ◌≤◌, ◌&&◌, leb, ◌⊎◌, List, [], ◌∷◌, length, get_or, Decides, refl, arith}
+use Rattle.std.specs.Char.{is_ascii_uppercase}
+use Rattle.std.specs.List.{list_all}
 use Rattle.std.proofs.lemmas.Bool.{and_parts, and_from, le-leb, leb-true}
 use Rattle.std.proofs.lemmas.Bool.Decides.{nat_tests, Decides-and, Decides-or, Decides-like}
 use Rattle.std.proofs.ByRecursion.{Decides-by_and}
-use Rattle.byte_text.specs.Classes.{in_class, all_in}
+use Rattle.byte_text.specs.Classes.{in_class}
 use Rattle.byte_text.specs.declared.ByteClass.TheVariants.{CommodityName}
 use Rattle.values.specs.Names.{is_commodity_name}
 use Rattle.values.specs.Spelling.{Capital, Digit, Starts, IsCommodityName}

@@ -1,4 +1,6 @@
 // What amounts and lots weigh: ten-thousandths of a commodity, unrounded. An i128 holds every product here exactly.
+#![tactic(auto)]
+
 ghost use Rattle.std.specs.Prelude.{◌≡◌, ◌*◌, ◌≤◌, pos, nat_abs};
 ghost use Rattle.lots.specs.Rows.{row_of};
 ghost use Rattle.weights.specs.Weights.{plain_weight, purchase_weight, draw_weight};

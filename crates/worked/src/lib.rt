@@ -1,4 +1,6 @@
 // Worked cases: what the definitions of the other crates give at values that a bookkeeper can check by hand.
+#![tactic(auto)]
+
 ghost use Rattle.std.specs.Prelude.{◌≡◌, length};
 ghost use Rattle.worked.specs.Cases.{cases, Worked};
 

@@ -1,4 +1,4 @@
-use Rattle.std.proofs.Common.{◌≡◌, ℕ, eqb, length, sym, ap, ◌∙◌}
+use Rattle.std.proofs.Common.{ℕ, eqb, length, ap, ◌∙◌}
 use Rattle.byte_text.specs.Classes.{in_class}
 use Rattle.byte_text.proofs.Runs.{run_all}
 use Rattle.byte_text.proofs.all_of.Goals as goal

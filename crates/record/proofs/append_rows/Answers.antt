@@ -1,4 +1,4 @@
-use Rattle.std.proofs.Common.{◌≡◌, ℕ, ◌+◌, ◌≤◌, List, length, sym, subst, rules}
+use Rattle.std.proofs.Common.{◌≡◌, ◌+◌, ◌≤◌, length, sym, subst, rules}
 use Rattle.record.specs.Layout.{record_after, first_free, most_rows}
 use Rattle.record.specs.Promises.{Appended, SizedHeader}
 use Rattle.record.proofs.Parts.{appended}

@@ -1,4 +1,4 @@
-use Rattle.std.proofs.Common.{◌≡◌, ◌≤◌, length, sym, subst, rules}
+use Rattle.std.proofs.Common.{◌≤◌, length, sym, subst, rules}
 use Rattle.record.specs.Layout.{header_length, most_rows}
 use Rattle.record.specs.Promises.{Headed, SizedHeader}
 use Rattle.record.proofs.Parts.{headed}

@@ -1,6 +1,6 @@
-use Rattle.std.proofs.Common.{◌≡◌, ◌+◌, Bool, ◌||◌, get_or, drop, sym, ap, ◌∙◌}
+use Rattle.std.proofs.Common.{◌+◌, Bool, ◌||◌, drop, sym, ap, ◌∙◌}
 use Rattle.std.proofs.lemmas.List.{at_drop_more, at_drop_all}
-use Rattle.booking.specs.Weighing.{is_unfilled, has_blank}
+use Rattle.booking.specs.Weighing.{has_blank}
 use Rattle.booking.proofs.Blanks.{no_entry}
 use Rattle.balancing.proofs.balance.has_blank.Goals as goal
 

@@ -1,4 +1,4 @@
-use Rattle.std.proofs.Common.{length, Some, ap, ◌∙◌, arith, length-drop}
+use Rattle.std.proofs.Common.{Some, arith}
 use Rattle.fields.proofs.Fractions.{tenths, hundredths, rest_below}
 use Rattle.fields.proofs.number.read_fraction.Goals as goal
 

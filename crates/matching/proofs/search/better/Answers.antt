@@ -1,4 +1,4 @@
-use Rattle.std.proofs.Common.{◌≡◌, ℕ, Option, sym, subst}
+use Rattle.std.proofs.Common.{ℕ, Option, sym, subst}
 use Rattle.matching.specs.Matching.{matches}
 use Rattle.matching.specs.Places.{Found}
 use Rattle.matching.proofs.Finds.{stays, skipped, first_match, overtakes}

@@ -1,4 +1,3 @@
-use Rattle.std.proofs.Common.{arith}
 use Rattle.balances.proofs.Bounds.{near_none}
 use Rattle.balances.proofs.table.Balances.after.Goals as goal
 

@@ -1,7 +1,7 @@
-use Rattle.std.proofs.Common.{◌≡◌, ℕ, ◌+◌, ◌<◌, ◌≤◌, length, get_or, set, ℤ, pos, ◌+ℤ◌, sym, ap, ◌∙◌, arith, w32, w64, SFits, rules}
+use Rattle.std.proofs.Common.{◌≡◌, ℕ, ◌+◌, ◌≤◌, length, get_or, set, pos, ◌+ℤ◌, sym, ap, arith, w32, w64, SFits, rules}
 use Rattle.std.proofs.lemmas.Int.{ints, to_z-of_z}
 use Rattle.std.proofs.lemmas.List.{set_past}
-use Rattle.booking.specs.Balances.{balance_place, add_amount}
+use Rattle.booking.specs.Balances.{balance_place}
 use Rattle.balances.specs.Bounds.{Moved}
 use Rattle.balances.proofs.Bounds.{near_set, near_more}
 use Rattle.balances.proofs.table.adding.add_amount.Goals as goal

@@ -1,7 +1,6 @@
-use Rattle.std.proofs.Common.{◌≡◌, length, get_or, ap, ◌∙◌, arith}
+use Rattle.std.proofs.Common.{arith}
 use Rattle.lots.specs.Rows.{no_lot}
 use Rattle.matching.specs.declared.wanted.Draw.{Draw}
-use Rattle.booking.specs.declared.entry.Entry.{Entry}
 use Rattle.booking.specs.declared.entry.EntryKind.TheVariants.{Drew}
 use Rattle.booking.specs.Ranges.{draw_in_range}
 use Rattle.booking.specs.Postings.{entry}

@@ -1,4 +1,4 @@
-use Rattle.std.proofs.Common.{◌≡◌, ◌+◌, not, drop}
+use Rattle.std.proofs.Common.{◌≡◌, ◌+◌, drop}
 use Rattle.booking.specs.Places.{blank_place}
 use Rattle.booking.proofs.entries.filling.place_of_blank.Given as goal
 

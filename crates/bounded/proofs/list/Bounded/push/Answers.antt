@@ -1,4 +1,4 @@
-use Rattle.std.proofs.Common.{◌≡◌, Bool, false, leb, List, length, Ok, Result, sym, ap, ◌∙◌, arith}
+use Rattle.std.proofs.Common.{leb, List, length, Ok, sym, ap, ◌∙◌, arith}
 use Rattle.std.proofs.lemmas.List.{take_more_set}
 use Rattle.std.proofs.lemmas.Bool.{lt-leb, cond-false}
 use Rattle.bounded.specs.Items.{items}

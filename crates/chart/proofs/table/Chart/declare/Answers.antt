@@ -1,8 +1,7 @@
-use Rattle.std.proofs.Common.{◌≡◌, ℕ, List, map, take, ap, ◌∙◌}
-use Rattle.bounded.specs.Items.{items, pushed}
+use Rattle.std.proofs.Common.{ℕ, List, map, take, ap, ◌∙◌}
+use Rattle.bounded.specs.Items.{items}
 use Rattle.books.specs.View.{name_bytes, account_of}
 use Rattle.books.specs.States.{Names}
-use Rattle.books.specs.declared.name.Name.{Name}
 use Rattle.chart.specs.View.{push_below}
 use Rattle.chart.proofs.Mapped.{pushed_map, second, pushed_whole, commodity_whole}
 use Rattle.chart.proofs.table.Chart.declare.Goals as goal

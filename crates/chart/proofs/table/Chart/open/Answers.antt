@@ -1,4 +1,4 @@
-use Rattle.std.proofs.Common.{◌≡◌, ℕ, true, List, map, take, ap, ◌∙◌}
+use Rattle.std.proofs.Common.{ℕ, true, List, map, take, ap, ◌∙◌}
 use Rattle.bounded.specs.Items.{items}
 use Rattle.books.specs.View.{name_bytes, account_of}
 use Rattle.books.specs.States.{Account, Names}

@@ -1,4 +1,4 @@
-use Rattle.std.proofs.Common.{◌≡◌, ℕ, ◌-◌, List, length, sym, ap, ◌∙◌, subst, arith}
+use Rattle.std.proofs.Common.{◌≡◌, ◌-◌, List, length, sym, ◌∙◌, subst, arith}
 use Rattle.bounded.specs.Items.{items}
 use Rattle.bounded.proofs.Capacity.{items_within, pushed_ok}
 use Rattle.lots.specs.declared.rows.LotRow.{LotRow}

@@ -1,4 +1,4 @@
-use Rattle.std.proofs.Common.{◌≡◌, List, Result}
+use Rattle.std.proofs.Common.{List, Result}
 use Rattle.refusal.specs.declared.Refusal.{Refusal}
 use Rattle.bounded.specs.Items.{items}
 use Rattle.bounded.proofs.Capacity.{items_within}

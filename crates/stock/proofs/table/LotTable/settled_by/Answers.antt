@@ -1,8 +1,8 @@
-use Rattle.std.proofs.Common.{◌≡◌, ℕ, Bool, true, List, length, get_or, Option, sym, refl, ap, ◌∙◌, subst}
+use Rattle.std.proofs.Common.{◌≡◌, ℕ, List, length, get_or, sym, ap, ◌∙◌, subst}
 use Rattle.bounded.specs.Items.{items}
 use Rattle.lots.specs.declared.rows.LotRow.{LotRow}
 use Rattle.lots.specs.Rows.{no_lot}
-use Rattle.matching.specs.Matching.{matches, lots_matching}
+use Rattle.matching.specs.Matching.{matches}
 use Rattle.matching.specs.Places.{NoneMatch, EarliestAt}
 use Rattle.matching.specs.Drawing.{question}
 use Rattle.matching.proofs.Earliest.{settled_at, settled_none}

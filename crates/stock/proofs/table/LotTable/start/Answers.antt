@@ -4,7 +4,7 @@ use Rattle.bounded.specs.Items.{items}
 use Rattle.bounded.proofs.Capacity.{items_within, pushed_ok}
 use Rattle.lots.specs.declared.rows.Key.{Key}
 use Rattle.lots.specs.declared.rows.LotRow.{LotRow}
-use Rattle.lots.specs.Rows.{in_range, row_of}
+use Rattle.lots.specs.Rows.{in_range}
 use Rattle.stock.specs.Kept.{well_kept}
 use Rattle.stock.proofs.Keeping.{in_words, as_test, kept_pushed, lot_in_range}
 use Rattle.stock.proofs.Purchases.{keys_others}
