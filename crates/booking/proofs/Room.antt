@@ -1,6 +1,6 @@
 -- A reduction empties each lot that it draws from but the last. So with its draws, entries and open lots together grow by at most 1.
 use Rattle.std.proofs.Common.{◌≡◌, ℕ, suc, ◌+◌, ◌-◌, ◌<◌, ◌≤◌, min, Bool, true, false, cond, not, ◌&&◌, eqb, leb, ◌⊎◌, List, [], ◌∷◌, length, refl, ap, ◌∙◌, inl, inr, ⊎_elim, arith}
-use Rattle.std.specs.List.{AllByRecursion as All, list_all}
+use Rattle.std.specs.List.{AllByRecursion, list_all}
 use Rattle.std.proofs.ByRecursion.{All-weaker}
 use Rattle.std.proofs.lemmas.Bool.{and_parts, leb-true, le-leb, eq-eqb, cond_both, cond-true, cond-false, cases_Bool, cases_eq}
 use Rattle.lots.specs.declared.rows.LotRow.{LotRow}
@@ -116,7 +116,7 @@ module _ (o : Order) (keeps : Keeps o) (w : Wanted) (u : ℕ) (t : Table) (kept 
     pairs [] within rise = tt
     pairs (y ∷ ys) within rise = (with_head ys (λ s m. within s (inr m)) rise.0, pairs ys (λ s m. within s (inr m)) rise.1)
       where
-        with_head : (zs : List LotRow) → ((s : LotRow) → Member zs s → Member xs s) → All (λ s. y.serial < s.serial) zs → All (NotBoth lt f y) zs
+        with_head : (zs : List LotRow) → ((s : LotRow) → Member zs s → Member xs s) → AllByRecursion (λ s. y.serial < s.serial) zs → AllByRecursion (NotBoth lt f y) zs
         with_head [] inside all = tt
         with_head (z ∷ zs) inside all = (not_both y z (within y (inl refl)) (inside z (inl refl)) all.0, with_head zs (λ s m. inside s (inr m)) all.1)
 

@@ -1,6 +1,6 @@
 -- What a call answers and leaves, and runs of calls.
 use Rattle.std.specs.Prelude.{◌≡◌, ℕ, Bool, true, false, ◌&&◌, ◌||◌, ◌⊎◌, List, [], ◌∷◌, ◌++◌, Some, None, Option, nat_le}
-use Rattle.std.specs.List.{AllByRecursion as All}
+use Rattle.std.specs.List.{AllByRecursion}
 use Rattle.refusal.specs.declared.Fault.{Fault}
 use Rattle.refusal.specs.Table.{number_of}
 use Rattle.matching.specs.Drawn.{AllPairs}
@@ -34,14 +34,14 @@ pub record FirstMet (ts : List Test) (t : Test) : Type 0 where
   pub before : List Test
   pub behind : List Test
   pub listed : ts ≡ before ++ t ∷ behind
-  pub none_before : All (λ other. other.met ≡ false) before
+  pub none_before : AllByRecursion (λ other. other.met ≡ false) before
   pub is_met : t.met ≡ true
 
 -- The answer is the first refusal of its table that the call meets, and then nothing changes; a call that meets none is carried out.
 abbrev pub AnswersFirstMet : Type 0
 AnswersFirstMet =
     (o : Order) (s : State) (c : Call)
-    → ((t : Test) × FirstMet (tests o s c) t × (step o s c ≡ (Refused (fault_of t), s))) ⊎ (All (λ t. t.met ≡ false) (tests o s c) × (step o s c ≡ (reply s c, change o s c)))
+    → ((t : Test) × FirstMet (tests o s c) t × (step o s c ≡ (Refused (fault_of t), s))) ⊎ (AllByRecursion (λ t. t.met ≡ false) (tests o s c) × (step o s c ≡ (reply s c, change o s c)))
 
 -- both numbers lie between two others
 abbrev pub both_between : ℕ → ℕ → ℕ → ℕ → Bool

@@ -1,6 +1,6 @@
 -- Runs of bytes that pass a test.
 use Rattle.std.proofs.Common.{◌≡◌, ℕ, suc, ◌+◌, Bool, true, false, eqb, List, [], ◌∷◌, ◌++◌, length, take, drop, refl, ◌∙◌, ⊎_elim, one-add, arith}
-use Rattle.std.specs.List.{prefix_len, AllByRecursion as All, list_all}
+use Rattle.std.specs.List.{prefix_len, AllByRecursion, list_all}
 use Rattle.std.proofs.lemmas.Bool.{cases_Bool}
 use Rattle.std.proofs.lemmas.Bool.Decides.{nat_tests}
 
@@ -19,7 +19,7 @@ run_all p (b ∷ bs) =
     (cases_Bool (p b))
 
 -- a run is of bytes that pass
-pub run_passes : (p : ℕ → Bool) (xs : List ℕ) → All (λ x. p x ≡ true) (take (prefix_len p xs) xs)
+pub run_passes : (p : ℕ → Bool) (xs : List ℕ) → AllByRecursion (λ x. p x ≡ true) (take (prefix_len p xs) xs)
 run_passes p [] = tt
 run_passes p (x ∷ xs) =
     ⊎_elim
@@ -41,7 +41,7 @@ run_halts p (x ∷ xs) =
     (cases_Bool (p x))
 
 -- these two make the run
-pub run_made : (p : ℕ → Bool) (xs rest : List ℕ) → All (λ x. p x ≡ true) xs → Halts p rest → prefix_len p (xs ++ rest) ≡ length xs
+pub run_made : (p : ℕ → Bool) (xs rest : List ℕ) → AllByRecursion (λ x. p x ≡ true) xs → Halts p rest → prefix_len p (xs ++ rest) ≡ length xs
 run_made p [] [] h s = refl
 run_made p [] (c ∷ rest) h s = rw s
 run_made p (x ∷ xs) rest h s = rw (h.0, run_made p xs rest h.1 s, one-add)

@@ -1,7 +1,7 @@
 -- Date reading finds just the date that a text writes.
 use Rattle.std.proofs.Common.{◌≡◌, ℕ, ◌+◌, ◌*◌, ◌<◌, ◌≤◌, true, false, ◌&&◌, eqb, List, [], ◌∷◌, ◌++◌, length, get_or, take, drop, Some, None, Ok, Err, Option, Result, sym, ap, ◌∙◌, subst, arith, MatchResult}
 use Rattle.std.specs.Option as options
-use Rattle.std.specs.List.{AllByRecursion as All}
+use Rattle.std.specs.List.{AllByRecursion}
 use Rattle.std.proofs.lemmas.List.{length-take-le, length-drop}
 use Rattle.std.proofs.lemmas.Bool.{and_parts, eqb-true, cond-true, cond-false}
 use Rattle.values.specs.Calendar.{is_day, is_calendar_day, CalendarDay, day_number}
@@ -71,7 +71,7 @@ sound t n e =
       omega (arith, same, y.1, m.1, d.1),
     )
 
-complete : (ys ms ds : List ℕ) → All Digit ys → All Digit ms → All Digit ds → length ys ≡ 4 → length ms ≡ 2 → length ds ≡ 2 → CalendarDay (value ys) (value ms) (value ds) → date (ys ++ 45 ∷ (ms ++ 45 ∷ ds)) ≡ Some (day_number (value ys) (value ms) (value ds))
+complete : (ys ms ds : List ℕ) → AllByRecursion Digit ys → AllByRecursion Digit ms → AllByRecursion Digit ds → length ys ≡ 4 → length ms ≡ 2 → length ds ≡ 2 → CalendarDay (value ys) (value ms) (value ds) → date (ys ++ 45 ∷ (ms ++ 45 ∷ ds)) ≡ Some (day_number (value ys) (value ms) (value ds))
 complete (a ∷ b ∷ c ∷ d ∷ []) (e ∷ f ∷ []) (g ∷ h ∷ []) p q r k l n cal =
     rw (written 0 (a ∷ b ∷ c ∷ d ∷ []) p, written 0 (e ∷ f ∷ []) q, written 0 (g ∷ h ∷ []) r, (calendar_decides _ _ _).1 cal)
 complete [] ms ds p q r k l n cal = absurd (omega arith)

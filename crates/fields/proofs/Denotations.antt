@@ -2,7 +2,7 @@
 use Rattle.std.proofs.Common.{◌≡◌, ℕ, ◌+◌, ◌-◌, ◌*◌, ◌^◌, ◌<◌, ◌≤◌, Bool, true, false, ◌&&◌, eqb, leb, List, [], ◌∷◌, ◌++◌, length, get_or, take, drop, ℤ, pos, neg_ℤ, Some, fold, sym, refl, ap, ◌∙◌, ⊎_elim, mul-one, one-add, arith}
 use Rattle.std.specs.Char.{is_ascii_digit}
 use Rattle.std.specs.Option.{option_map}
-use Rattle.std.specs.List.{AllByRecursion as All}
+use Rattle.std.specs.List.{AllByRecursion}
 use Rattle.std.proofs.lemmas.List.{take_at, drop_at, take-append-drop}
 use Rattle.std.proofs.lemmas.Bool.{cases_Bool, and_from, and_parts, le-leb, leb-true, eqb-true, cond-true, cond-false, ne_eqb}
 use Rattle.fields.specs.Decimal.{decimal, decimal_after}
@@ -15,11 +15,11 @@ use Rattle.fields.proofs.Options.{none_some, from_bind, from_mapped, from_cond}
 
 -- digits and what they write
 
-pub written : (n : ℕ) (ds : List ℕ) → All Digit ds → decimal_after n ds ≡ Some (fold (λ n b. n * 10 + (b - 48)) n ds)
+pub written : (n : ℕ) (ds : List ℕ) → AllByRecursion Digit ds → decimal_after n ds ≡ Some (fold (λ n b. n * 10 + (b - 48)) n ds)
 written n [] h = refl
 written n (b ∷ bs) h = cond-true _ _ _ ((within_decides 48 57 b).1 h.0) ∙ written (n * 10 + (b - 48)) bs h.1
 
-pub from_decimal : (n : ℕ) (ds : List ℕ) (v : ℕ) → decimal_after n ds ≡ Some v → All Digit ds × (v ≡ fold (λ n b. n * 10 + (b - 48)) n ds)
+pub from_decimal : (n : ℕ) (ds : List ℕ) (v : ℕ) → decimal_after n ds ≡ Some v → AllByRecursion Digit ds × (v ≡ fold (λ n b. n * 10 + (b - 48)) n ds)
 from_decimal n [] v e = (tt, cc)
 from_decimal n (b ∷ bs) v e =
     let p = from_cond (is_ascii_digit b) _ v e in
@@ -30,15 +30,15 @@ digit_not : (b c : ℕ) → Digit b → c < 48 → eqb b c ≡ false
 digit_not b c d h = ne_eqb b c (λ e. omega arith)
 
 -- the point stands behind the digits
-pub before_point : (ws cs : List ℕ) → All Digit ws → before 46 (ws ++ point cs) ≡ length ws
+pub before_point : (ws cs : List ℕ) → AllByRecursion Digit ws → before 46 (ws ++ point cs) ≡ length ws
 before_point [] [] h = refl
 before_point [] (c ∷ cs) h = refl
 before_point (w ∷ ws) cs h = let n = digit_not w 46 h.0 (omega arith) in rw (n, before_point ws cs h.1, one-add)
 
-pub whole_is : (ws : List ℕ) → All Digit ws → 1 ≤ length ws → length ws ≤ 6 → whole ws ≡ Some (value ws)
+pub whole_is : (ws : List ℕ) → AllByRecursion Digit ws → 1 ≤ length ws → length ws ≤ 6 → whole ws ≡ Some (value ws)
 whole_is ws d p q = cond-true _ _ _ (and_from _ _ (le-leb 1 (length ws) p) (le-leb (length ws) 6 q)) ∙ written 0 ws d
 
-pub fraction_is : (cs : List ℕ) → All Digit cs → length cs ≤ 2 → fraction (point cs) ≡ Some (value cs * 10 ^ (2 - length cs))
+pub fraction_is : (cs : List ℕ) → AllByRecursion Digit cs → length cs ≤ 2 → fraction (point cs) ≡ Some (value cs * 10 ^ (2 - length cs))
 fraction_is [] d h = refl
 fraction_is (a ∷ []) d h = ap (option_map (λ (n : ℕ). n * 10)) (written 0 (a ∷ []) d)
 fraction_is (a ∷ b ∷ []) d h = written 0 (a ∷ b ∷ []) d ∙ ap Some (sym (mul-one _))
@@ -70,7 +70,7 @@ at_point (b ∷ bs) h =
 
 pub record Decimals (f : List ℕ) (b : ℕ) : Type 0 where
   pub decimals : List ℕ
-  pub digits : All Digit decimals
+  pub digits : AllByRecursion Digit decimals
   pub few : length decimals ≤ 2
   pub text : f ≡ point decimals
   pub worth : b ≡ value decimals * 10 ^ (2 - length decimals)

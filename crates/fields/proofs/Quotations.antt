@@ -1,7 +1,7 @@
 -- Reading a quoted text finds just what stands between its quotes.
 use Rattle.std.proofs.Common.{◌≡◌, ℕ, suc, ◌+◌, ◌<◌, ◌≤◌, Bool, true, not, ◌&&◌, eqb, leb, List, [], ◌∷◌, ◌++◌, length, get_or, take, drop, IfOk, Some, None, Ok, Err, Result, sym, refl, ap, ◌∙◌, subst, ⊎_elim, add-one, arith, MatchResult}
 use Rattle.std.specs.Option.{option_map}
-use Rattle.std.specs.List.{AllByRecursion as All}
+use Rattle.std.specs.List.{AllByRecursion}
 use Rattle.std.proofs.lemmas.List.{take-append-drop, drop_more, drop-drop, get_or_past, drop_at, get_or_at, length-take, length-append}
 use Rattle.std.proofs.lemmas.Bool.{cases_lt, and_parts, and_from, or_cases, or_right, not-true, eqb-true, eqb-false, eq-eqb, ne_eqb, le-leb, leb-true, cond-true}
 use Rattle.byte_text.specs.Classes.{in_class, run_length}
@@ -23,11 +23,11 @@ plain_byte b e =
 byte_plain : (b : ℕ) → (b ≡ 34 → ⊥) × (b ≡ 92 → ⊥) → in_class QuotedText b ≡ true
 byte_plain b h = and_from _ _ (ap not (ne_eqb b 34 h.0)) (ap not (ne_eqb b 92 h.1))
 
-all_plain : (xs : List ℕ) → All (λ x. in_class QuotedText x ≡ true) xs → All (λ b. (b ≡ 34 → ⊥) × (b ≡ 92 → ⊥)) xs
+all_plain : (xs : List ℕ) → AllByRecursion (λ x. in_class QuotedText x ≡ true) xs → AllByRecursion (λ b. (b ≡ 34 → ⊥) × (b ≡ 92 → ⊥)) xs
 all_plain [] h = tt
 all_plain (x ∷ xs) h = (plain_byte x h.0, all_plain xs h.1)
 
-plain_all : (xs : List ℕ) → All (λ b. (b ≡ 34 → ⊥) × (b ≡ 92 → ⊥)) xs → All (λ x. in_class QuotedText x ≡ true) xs
+plain_all : (xs : List ℕ) → AllByRecursion (λ b. (b ≡ 34 → ⊥) × (b ≡ 92 → ⊥)) xs → AllByRecursion (λ x. in_class QuotedText x ≡ true) xs
 plain_all [] h = tt
 plain_all (x ∷ xs) h = (byte_plain x h.0, plain_all xs h.1)
 
@@ -93,7 +93,7 @@ behind content more =
 closing : (content more : List ℕ) → get_or (34 ∷ (content ++ 34 ∷ more)) (length content + 1) 0 ≡ 34
 closing content more = rw add-one (get_or_at content 34 more 0 (length content) refl)
 
-complete : (content more : List ℕ) → All (λ b. (b ≡ 34 → ⊥) × (b ≡ 92 → ⊥)) content → length content ≤ 40 → FieldEnds more → quoted_length (34 ∷ (content ++ 34 ∷ more)) ≡ Some (length content)
+complete : (content more : List ℕ) → AllByRecursion (λ b. (b ≡ 34 → ⊥) × (b ≡ 92 → ⊥)) content → length content ≤ 40 → FieldEnds more → quoted_length (34 ∷ (content ++ 34 ∷ more)) ≡ Some (length content)
 complete content more p s f =
     let t = 34 ∷ (content ++ 34 ∷ more) in
     let n = run_length QuotedText (content ++ 34 ∷ more) in

@@ -1,6 +1,6 @@
 -- What the texts of fields mean: which text denotes which amount, writes which date, quotes which text. Assumes nothing.
 use Rattle.std.specs.Prelude.{◌≡◌, ℕ, ◌+◌, ◌-◌, ◌*◌, ◌^◌, ◌≤◌, Bool, true, false, cond, List, [], ◌∷◌, ◌++◌, length, ℤ, pos, neg_ℤ, fold, ◌≢◌}
-use Rattle.std.specs.List.{AllByRecursion as All}
+use Rattle.std.specs.List.{AllByRecursion}
 use Rattle.values.specs.Calendar.{CalendarDay, day_number}
 use Rattle.values.specs.Spelling.{Digit}
 
@@ -16,10 +16,10 @@ pub record Numeral : Type 0 where
 
 -- 1 to 6 digits before the point, at most 2 behind it
 pub record Valid (m : Numeral) : Type 0 where
-  pub whole_digits : All Digit m.whole
+  pub whole_digits : AllByRecursion Digit m.whole
   pub whole_some : 1 ≤ length m.whole
   pub whole_few : length m.whole ≤ 6
-  pub decimal_digits : All Digit m.decimals
+  pub decimal_digits : AllByRecursion Digit m.decimals
   pub decimals_few : length m.decimals ≤ 2
 
 abbrev pub sign : Bool → List ℕ
@@ -50,7 +50,7 @@ pub record DateText (t : List ℕ) : Type 0 where
   pub year : List ℕ
   pub month : List ℕ
   pub day : List ℕ
-  pub digits : All Digit year × All Digit month × All Digit day
+  pub digits : AllByRecursion Digit year × AllByRecursion Digit month × AllByRecursion Digit day
   pub lengths : (length year ≡ 4) × (length month ≡ 2) × (length day ≡ 2)
   pub spelled : t ≡ year ++ 45 ∷ (month ++ 45 ∷ day)
 
@@ -66,6 +66,6 @@ FieldEnds (b ∷ bs) = b ≡ 32
 -- the text starts with the content between quotes, and more follows
 pub record Quotes (t content more : List ℕ) : Type 0 where
   pub spelled : t ≡ 34 ∷ (content ++ 34 ∷ more)
-  pub plain : All (λ b. (b ≢ 34) × (b ≢ 92)) content
+  pub plain : AllByRecursion (λ b. (b ≢ 34) × (b ≢ 92)) content
   pub short : length content ≤ 40
   pub ends : FieldEnds more

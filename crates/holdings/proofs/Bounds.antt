@@ -1,6 +1,6 @@
 -- The units of open lots are few enough.
 use Rattle.std.proofs.Common.{◌≡◌, ◌*◌, ◌≤◌, Bool, true, ◌&&◌, leb, List, [], ◌∷◌, length, arith}
-use Rattle.std.specs.List.{AllByRecursion as All}
+use Rattle.std.specs.List.{AllByRecursion}
 use Rattle.std.proofs.lemmas.Bool.{and_parts, leb-true, cond_both}
 use Rattle.lots.specs.declared.rows.LotRow.{LotRow}
 use Rattle.lots.specs.Rows.{most, in_range}
@@ -15,7 +15,7 @@ units_few M r e =
     let few = leb-true r.units most (and_parts (leb r.units most) (leb r.key.cost.number most) ranges).0 in
     cond_both (M r) r.units 0 (λ n. n ≤ most) (λ _. few) (λ _. omega arith)
 
-units_within : (M : LotRow → Bool) (lots : List LotRow) → All (λ r. in_range r ≡ true) lots → units_matching M lots ≤ most * length lots
+units_within : (M : LotRow → Bool) (lots : List LotRow) → AllByRecursion (λ r. in_range r ≡ true) lots → units_matching M lots ≤ most * length lots
 units_within M [] ranges = omega arith
 units_within M (r ∷ rs) ranges = let here = units_few M r ranges.0 in let ih = units_within M rs ranges.1 in omega arith
 

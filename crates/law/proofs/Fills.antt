@@ -1,7 +1,7 @@
 -- A filled blank makes the weights sum to 0, and changes nothing else.
 use Rattle.std.proofs.Common.{◌≡◌, ℕ, zero, suc, ◌+◌, ◌%◌, ◌<◌, ◌≤◌, Bool, true, false, cond, not, ◌&&◌, eqb, ◌⊎◌, List, [], ◌∷◌, length, ℤ, pos, negsuc, ◌+ℤ◌, ◌*ℤ◌, Option, sym, refl, ap, ◌∙◌, subst, inl, inr, ⊎_elim, arith}
 use native.Mathlib.Nat.{div-add-mod}
-use Rattle.std.specs.List.{AllByRecursion as All}
+use Rattle.std.specs.List.{AllByRecursion}
 use Rattle.std.proofs.lemmas.Int.{ints}
 use Rattle.std.proofs.lemmas.Bool.{and_parts, cond-true, cond-false, cond_both, cases_eq, cases_Bool, cases_order, eq-eqb, eqb-true, ne_eqb, both_ways, not-false}
 use Rattle.matching.specs.Sums.{sum_of, sum_of_ints}
@@ -55,10 +55,10 @@ module _ (z : ℤ) (c : ℕ) where
       kinds (Bought key units serial) = refl
       kinds (Drew draw) = refl
 
-  pub fill_all : (P : EntryKind → Type 0) → ((a : ℕ) → P (Unfilled a) → P (Filled a z c)) → (es : List Entry) → All (λ e. P e.kind) es → All (λ e. P e.kind) (fill z c es)
+  pub fill_all : (P : EntryKind → Type 0) → ((a : ℕ) → P (Unfilled a) → P (Filled a z c)) → (es : List Entry) → AllByRecursion (λ e. P e.kind) es → AllByRecursion (λ e. P e.kind) (fill z c es)
   fill_all P fills [] all = tt
   fill_all P fills (e ∷ es) all =
-      cond_both (is_unfilled e.kind) (record { line = e.line; kind = filled_with z c e.kind } ∷ es) (e ∷ fill z c es) (λ xs. All (λ e. P e.kind) xs)
+      cond_both (is_unfilled e.kind) (record { line = e.line; kind = filled_with z c e.kind } ∷ es) (e ∷ fill z c es) (λ xs. AllByRecursion (λ e. P e.kind) xs)
       (λ _. (kinds e.kind all.0, all.1)) (λ _. (all.0, fill_all P fills es all.1))
     where
       kinds : (kind : EntryKind) → P kind → P (filled_with z c kind)
@@ -104,13 +104,13 @@ balanced_or_listed sum (suc n) c l m =
     (cases_eq c (suc n)))
     (λ e. zero_is (sum (suc n)) e)
 
-unbalanced_there : (sum : ℕ → ℤ) (n : ℕ) → All (λ c. (1 ≤ c) × (c ≤ n)) (unbalanced n sum)
+unbalanced_there : (sum : ℕ → ℤ) (n : ℕ) → AllByRecursion (λ c. (1 ≤ c) × (c ≤ n)) (unbalanced n sum)
 unbalanced_there sum zero = tt
 unbalanced_there sum (suc n) =
     let wider = widen n (unbalanced n sum) (unbalanced_there sum n) in
-    by_bool (is_zero (sum (suc n))) (λ (b : Bool). All (λ c. (1 ≤ c) × (c ≤ suc n)) (cond b (unbalanced n sum) (suc n ∷ unbalanced n sum))) (λ _. wider) (λ _. ((omega arith, omega arith), wider))
+    by_bool (is_zero (sum (suc n))) (λ (b : Bool). AllByRecursion (λ c. (1 ≤ c) × (c ≤ suc n)) (cond b (unbalanced n sum) (suc n ∷ unbalanced n sum))) (λ _. wider) (λ _. ((omega arith, omega arith), wider))
   where
-    widen : (n : ℕ) (cs : List ℕ) → All (λ c. (1 ≤ c) × (c ≤ n)) cs → All (λ c. (1 ≤ c) × (c ≤ suc n)) cs
+    widen : (n : ℕ) (cs : List ℕ) → AllByRecursion (λ c. (1 ≤ c) × (c ≤ n)) cs → AllByRecursion (λ c. (1 ≤ c) × (c ≤ suc n)) cs
     widen n [] all = tt
     widen n (c ∷ cs) all = let h = all.0.1 in ((all.0.0, omega arith), widen n cs all.1)
 
@@ -153,7 +153,7 @@ module _ (own : Option ℕ) (es : List Entry) where
 
 -- Completing, by what filling does.
 
-filled_by_keeps : (P : List Entry → Type 0) (es : List Entry) → P es → ((z : ℤ) (c : ℕ) → 1 ≤ c → c ≤ 16 → P (fill z c es)) → (us : List ℕ) → All (λ c. (1 ≤ c) × (c ≤ 16)) us → P (filled_by us es)
+filled_by_keeps : (P : List Entry → Type 0) (es : List Entry) → P es → ((z : ℤ) (c : ℕ) → 1 ≤ c → c ≤ 16 → P (fill z c es)) → (us : List ℕ) → AllByRecursion (λ c. (1 ≤ c) × (c ≤ 16)) us → P (filled_by us es)
 filled_by_keeps P es none some [] there = none
 filled_by_keeps P es none some (c ∷ cs) there = some (blank_amount (weight_sum es c)) c there.0.0 there.0.1
 
@@ -167,13 +167,13 @@ complete_sum f same es = complete_keeps (λ xs. sum_of (λ e. f e.kind) xs ≡ s
 pub complete_lots_weight : (d : ℕ) (es : List Entry) → lots_weight_sum d (complete es) ≡ lots_weight_sum d es
 complete_lots_weight d es = complete_keeps (λ xs. lots_weight_sum d xs ≡ lots_weight_sum d es) es refl (λ z c _ _. fill_sum_ints z c (lots_weight d) (λ a. refl) es)
 
-pub complete_there : (es : List Entry) → All EntryThere es → All EntryThere (complete es)
+pub complete_there : (es : List Entry) → AllByRecursion EntryThere es → AllByRecursion EntryThere (complete es)
 complete_there es all =
-    complete_keeps (λ xs. All EntryThere xs) es all
+    complete_keeps (λ xs. AllByRecursion EntryThere xs) es all
     (λ z c l h. fill_all z c KindThere (λ a there. record { a_low = there.a_low; a_high = there.a_high; c_low = l; c_high = h }) es all)
 
-pub complete_all : (P : EntryKind → Type 0) → ((z : ℤ) (c a : ℕ) → P (Unfilled a) → P (Filled a z c)) → (es : List Entry) → All (λ e. P e.kind) es → All (λ e. P e.kind) (complete es)
-complete_all P fills es all = complete_keeps (λ xs. All (λ e. P e.kind) xs) es all (λ z c _ _. fill_all z c P (fills z c) es all)
+pub complete_all : (P : EntryKind → Type 0) → ((z : ℤ) (c a : ℕ) → P (Unfilled a) → P (Filled a z c)) → (es : List Entry) → AllByRecursion (λ e. P e.kind) es → AllByRecursion (λ e. P e.kind) (complete es)
+complete_all P fills es all = complete_keeps (λ xs. AllByRecursion (λ e. P e.kind) xs) es all (λ z c _ _. fill_all z c P (fills z c) es all)
 
 pub complete_length : (es : List Entry) → length (complete es) ≡ length es
 complete_length es = complete_keeps (λ xs. length xs ≡ length es) es refl (λ z c _ _. fill_length z c es)

@@ -1,6 +1,6 @@
 -- At most 256 lots are open, each within its ranges, since purchases that would pass them are refused.
 use Rattle.std.proofs.Common.{◌≡◌, ℕ, suc, ◌+◌, ◌<◌, ◌≤◌, Bool, true, false, cond, ◌&&◌, ◌||◌, ltb, leb, List, [], ◌∷◌, length, Some, None, sym, refl, ap, subst, arith}
-use Rattle.std.specs.List.{AllByRecursion as All}
+use Rattle.std.specs.List.{AllByRecursion}
 use Rattle.std.proofs.lemmas.List.{length_push}
 use Rattle.std.proofs.ByRecursion.{All-push, All-weaker}
 use Rattle.std.proofs.lemmas.Bool.{and_from, and_parts, cond_both, le-leb, leb-true, leb-false, ltb-false}
@@ -25,7 +25,7 @@ use Rattle.law.proofs.Postings.{Buys, KindOfPostingThere, PostingThere}
 
 pub record Within (t : Table) : Type 0 where
   pub at_most_256 : length t.lots ≤ 256
-  pub ranges : All (λ r. in_range r ≡ true) t.lots
+  pub ranges : AllByRecursion (λ r. in_range r ≡ true) t.lots
 
 in_range_from : (r : LotRow) → 1 ≤ r.units → r.units ≤ most → r.key.cost.number ≤ most → in_range r ≡ true
 in_range_from r some few cheap =
@@ -47,10 +47,10 @@ module _ (k : Key) (n next : ℕ) (some : 1 ≤ n) where
       by_bool (of_key k r) (λ (b : Bool). (b || is_open k rs) ≡ true → length (cond b (with_more r n ∷ rs) (r ∷ add_units k n next rs)) ≡ suc (length rs))
       (λ _ _. refl) (λ _ f. ap (λ (m : ℕ). suc m) (grown_length rs f)) e
 
-  grown_ranges : (lots : List LotRow) → is_open k lots ≡ true → units_of_key k lots + n ≤ most → All (λ r. in_range r ≡ true) lots → All (λ r. in_range r ≡ true) (add_units k n next lots)
+  grown_ranges : (lots : List LotRow) → is_open k lots ≡ true → units_of_key k lots + n ≤ most → AllByRecursion (λ r. in_range r ≡ true) lots → AllByRecursion (λ r. in_range r ≡ true) (add_units k n next lots)
   grown_ranges [] e few all = false_true e
   grown_ranges (r ∷ rs) e few all =
-      by_bool (of_key k r) (λ (b : Bool). (b || is_open k rs) ≡ true → cond b r.units 0 + units_of_key k rs + n ≤ most → All (λ r. in_range r ≡ true) (cond b (with_more r n ∷ rs) (r ∷ add_units k n next rs)))
+      by_bool (of_key k r) (λ (b : Bool). (b || is_open k rs) ≡ true → cond b r.units 0 + units_of_key k rs + n ≤ most → AllByRecursion (λ r. in_range r ≡ true) (cond b (with_more r n ∷ rs) (r ∷ add_units k n next rs)))
       (λ _ _ sum. let p = in_range_parts r all.0 in (in_range_from (with_more r n) (omega arith) (omega arith) p.2, all.1))
       (λ _ f sum. (all.0, grown_ranges rs f (omega arith) all.1))
       e few
@@ -73,7 +73,7 @@ left_length g (r ∷ rs) =
     let ih = left_length g rs in
     cond_both (leb r.units (g r)) (lots_left g rs) (with_fewer r (g r) ∷ lots_left g rs) (λ xs. length xs ≤ suc (length rs)) (λ _. omega arith) (λ _. omega arith)
 
-left_ranges : (g : LotRow → ℕ) (lots : List LotRow) → All (λ r. in_range r ≡ true) lots → All (λ r. in_range r ≡ true) (lots_left g lots)
+left_ranges : (g : LotRow → ℕ) (lots : List LotRow) → AllByRecursion (λ r. in_range r ≡ true) lots → AllByRecursion (λ r. in_range r ≡ true) (lots_left g lots)
 left_ranges g lots all = all_left (λ r. in_range r ≡ true) g (λ r e l. let p = in_range_parts r e in let few = p.1 in in_range_from (with_fewer r (g r)) (omega arith) (omega arith) p.2) lots all
 
 -- Postings.
@@ -92,7 +92,7 @@ kind_within o day a t (Reduction u commodity cost date) there e w =
     let g = gives (matches (wanted_lots a commodity cost date)) (o.before u) u t.lots in
     record { at_most_256 = let l = left_length g t.lots in let m = w.at_most_256 in omega arith; ranges = left_ranges g t.lots w.ranges }
 
-pub postings_within : (o : Order) (day : ℕ) (ps : List Posting) (t : Table) → All PostingThere ps → first_fault o day t ps ≡ None → Within t → Within (table_after o day t ps)
+pub postings_within : (o : Order) (day : ℕ) (ps : List Posting) (t : Table) → AllByRecursion PostingThere ps → first_fault o day t ps ≡ None → Within t → Within (table_after o day t ps)
 postings_within o day [] t there e w = w
 postings_within o day (p ∷ ps) t there e w =
     let after = table_after_posting o day t p in

@@ -1,6 +1,6 @@
 -- Plain balances are what entries bring.
 use Rattle.std.proofs.Common.{◌≡◌, ℕ, zero, suc, ◌<◌, ◌≤◌, Bool, cond, eqb, leb, List, [], ◌∷◌, length, get_or, set, ℤ, pos, ◌+ℤ◌, ◌*ℤ◌, sym, refl, ◌∙◌, subst, ⊎_elim, arith, length-set}
-use Rattle.std.specs.List.{AllByRecursion as All}
+use Rattle.std.specs.List.{AllByRecursion}
 use Rattle.std.proofs.lemmas.List.{get_or-set_same, get_or-set_other}
 use Rattle.std.proofs.lemmas.Int.{ints}
 use Rattle.std.proofs.lemmas.Bool.{cond-true, cond-false, cases_eq, cases_order, eq-eqb, ne_eqb, le-leb, lt-leb}
@@ -108,14 +108,14 @@ kind_at bs a c (Filled account amount commodity) len ac there = added_at bs a c 
 kind_at bs a c (Bought key units serial) len ac there = omega (arith, ints)
 kind_at bs a c (Drew draw) len ac there = omega (arith, ints)
 
-pub balances_at : (es : List Entry) (bs : List ℤ) (a c : ℕ) → length bs ≡ 1024 → PlaceThere a c → All EntryThere es → balance_in (balances_after bs es) a c ≡ balance_in bs a c +ℤ amount_settled a c es
+pub balances_at : (es : List Entry) (bs : List ℤ) (a c : ℕ) → length bs ≡ 1024 → PlaceThere a c → AllByRecursion EntryThere es → balance_in (balances_after bs es) a c ≡ balance_in bs a c +ℤ amount_settled a c es
 balances_at [] bs a c len ac all = omega (arith, ints)
 balances_at (e ∷ es) bs a c len ac all =
     let here = kind_at bs a c e.kind len ac all.0 in
     let far = balances_at es (add_kind bs e.kind) a c (kind_length bs e.kind ∙ len) ac all.1 in
     omega (arith, ints)
 
--- All accounts together.
+-- AllByRecursion accounts together.
 
 abbrev amounts_to : ℕ → ℕ → List Entry → ℤ
 amounts_to zero c es = pos 0
@@ -173,7 +173,7 @@ kind_spread c (Filled b z d) there = filled_alike 64 c b d z ∙ one_account 64 
 kind_spread c (Bought key units serial) there = no_amount 64 c (Bought key units serial) (λ a. refl)
 kind_spread c (Drew draw) there = no_amount 64 c (Drew draw) (λ a. refl)
 
-entries_spread : (c : ℕ) (es : List Entry) → All EntryThere es → amounts_to 64 c es ≡ plain_sum c es
+entries_spread : (c : ℕ) (es : List Entry) → AllByRecursion EntryThere es → amounts_to 64 c es ≡ plain_sum c es
 entries_spread c [] all = amounts_none 64 c
 entries_spread c (e ∷ es) all =
     let a = amounts_cons 64 c e es in
@@ -188,7 +188,7 @@ balances_spread (suc n) c b es h l m s =
     let here = s (suc n) c (omega arith) h l m in
     omega (arith, ints)
 
-pub balances_plain : (c : ℕ) (b : Books) (es : List Entry) → 1 ≤ c → c ≤ 16 → All EntryThere es → BalancesAreSettled es b → balances_to 64 c b ≡ plain_sum c es
+pub balances_plain : (c : ℕ) (b : Books) (es : List Entry) → 1 ≤ c → c ≤ 16 → AllByRecursion EntryThere es → BalancesAreSettled es b → balances_to 64 c b ≡ plain_sum c es
 balances_plain c b es l m all s =
     let n : 64 ≤ 64 = omega arith in
     balances_spread 64 c b es n l m s ∙ entries_spread c es all

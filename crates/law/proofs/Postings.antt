@@ -1,7 +1,7 @@
 -- What an accepted posting names is there, and a purchase has some units.
 use Rattle.std.proofs.Common.{◌≡◌, ℕ, zero, suc, ◌≤◌, true, false, ◌&&◌, leb, List, [], ◌∷◌, length, ℤ, pos, negsuc, nat_abs, Some, None, Option, refl, arith}
 use Rattle.std.specs.Option.{option_map}
-use Rattle.std.specs.List.{AllByRecursion as All}
+use Rattle.std.specs.List.{AllByRecursion}
 use Rattle.std.specs.Str.{bytes_eq}
 use Rattle.std.proofs.ByRecursion.{All-append, All-weaker}
 use Rattle.std.proofs.lemmas.Bool.{both_ways, leb-true, not-false}
@@ -49,21 +49,21 @@ PostingThere p = KindOfPostingThere p.account p.kind
 
 abbrev pub DraftThere : Option Draft → Type 0
 DraftThere None = Unit {0}
-DraftThere (Some d) = All PostingThere d.postings
+DraftThere (Some d) = AllByRecursion PostingThere d.postings
 
 -- Entries of such postings.
 
-kind_entries_there : (o : Order) (day line a : ℕ) (t : Table) (kind : PostingKind) → KindOfPostingThere a kind → All EntryThere (entries_of_kind o day line a t kind)
+kind_entries_there : (o : Order) (day line a : ℕ) (t : Table) (kind : PostingKind) → KindOfPostingThere a kind → AllByRecursion EntryThere (entries_of_kind o day line a t kind)
 kind_entries_there o day line a t Blank there = (there, tt)
 kind_entries_there o day line a t (Plain amount commodity) there = (there, tt)
 kind_entries_there o day line a t (Purchase units commodity cost date) there = (tt, tt)
 kind_entries_there o day line a t (Reduction u commodity cost date) there = draws_there (draws_of o (wanted_lots a commodity cost date) u t.lots)
   where
-    draws_there : (ds : List Draw) → All EntryThere (draw_entries line ds)
+    draws_there : (ds : List Draw) → AllByRecursion EntryThere (draw_entries line ds)
     draws_there [] = tt
     draws_there (d ∷ ds) = (tt, draws_there ds)
 
-pub entries_there : (o : Order) (day : ℕ) (ps : List Posting) (t : Table) → All PostingThere ps → All EntryThere (entries_of o day t ps)
+pub entries_there : (o : Order) (day : ℕ) (ps : List Posting) (t : Table) → AllByRecursion PostingThere ps → AllByRecursion EntryThere (entries_of o day t ps)
 entries_there o day [] t all = tt
 entries_there o day (p ∷ ps) t all =
     let after = table_after_posting o day t p in
@@ -75,7 +75,7 @@ kind_some a (Plain amount commodity) there = tt
 kind_some a (Purchase units commodity cost date) there = there.some
 kind_some a (Reduction units commodity cost date) there = tt
 
-pub all_some : (ps : List Posting) → All PostingThere ps → AllSome ps
+pub all_some : (ps : List Posting) → AllByRecursion PostingThere ps → AllSome ps
 all_some ps all = All-weaker PostingThere (λ p. SomeUnits p.kind) (λ p. kind_some p.account p.kind) ps all
 
 -- Postings of accepted calls.

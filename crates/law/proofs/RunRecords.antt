@@ -1,6 +1,6 @@
 -- What the record holds after a run.
 use Rattle.std.proofs.Common.{◌≡◌, ℕ, ◌+◌, ◌≤◌, Bool, true, false, cond, not, ◌&&◌, ◌||◌, eqb, leb, List, [], ◌∷◌, ◌++◌, map, length, take, drop, is_some, Some, None, Option, sym, refl, ap, ◌∙◌, subst, arith}
-use Rattle.std.specs.List.{AllByRecursion as All}
+use Rattle.std.specs.List.{AllByRecursion}
 use Rattle.std.proofs.lemmas.List.{length-append, length-map, length-take-le}
 use Rattle.std.proofs.lemmas.Bool.{not-false, leb-true, both_ways}
 use Rattle.refusal.specs.declared.Fault.{Fault}
@@ -164,7 +164,7 @@ module _ (o : Order) (start : List ℕ) where
       subst (λ (b : Bool). Holds (wrote || (b && writes c)) (cond b (after_accepted o (history s opened xs) c) (history s opened xs)) (record_change o s c book)) (sym (reply_accepted s c)) (accepted_holds c wrote s opened xs book e l g holds)
   step_holds c wrote s opened xs book (Some f) e l g holds = same_holds wrote (history s opened xs) (history s opened xs) book refl refl holds
 
-  run_holds : Keeps o → (calls : List Call) (wrote : Bool) (s : State) (opened : List Key) (xs : List Settlement) (book : List ℕ) → All (LentWithin (length start)) calls → Good s opened xs → Holds wrote (history s opened xs) book
+  run_holds : Keeps o → (calls : List Call) (wrote : Bool) (s : State) (opened : List Key) (xs : List Settlement) (book : List ℕ) → AllByRecursion (LentWithin (length start)) calls → Good s opened xs → Holds wrote (history s opened xs) book
       → record_after_calls o s calls book ≡ cond (wrote || any_wrote calls (outcomes o s calls)) (recorded o (history_after o (history s opened xs) calls (outcomes o s calls)) start) start
   run_holds keeps [] wrote s opened xs book l g holds = (same_holds wrote (history s opened xs) (history s opened xs) book refl refl holds).is
   run_holds keeps (c ∷ cs) wrote s opened xs book l g holds =
@@ -183,7 +183,7 @@ pub record_stands : RecordStands
 record_stands o keeps calls book lent = run_holds o book keeps calls false empty_ledger [] [] book lent empty_good (record { is = refl; early = λ _. refl })
 
 -- calls that are lent no more than there is
-pub lent_within : (size : ℕ) (calls : List Call) → All (LentWithin size) (map (lend_within size) calls)
+pub lent_within : (size : ℕ) (calls : List Call) → AllByRecursion (LentWithin size) (map (lend_within size) calls)
 lent_within size [] = tt
 lent_within size (c ∷ cs) = (at c, lent_within size cs)
   where

@@ -1,7 +1,7 @@
 -- The law over runs.
 use Rattle.std.proofs.Common.{◌≡◌, ℕ, ◌+◌, ◌-◌, ◌*◌, ◌≤◌, Bool, true, false, cond, not, ◌&&◌, List, [], ◌∷◌, ◌++◌, length, pos, Some, None, Option, sym, refl, ap, ◌∙◌, subst, arith, length-append, length-set}
 use Rattle.std.specs.Option.{option_map}
-use Rattle.std.specs.List.{AllByRecursion as All}
+use Rattle.std.specs.List.{AllByRecursion}
 use Rattle.std.proofs.lemmas.List.{get_or-replicate}
 use Rattle.std.proofs.ByRecursion.{All-append, All-push}
 use Rattle.std.proofs.lemmas.Int.{ints}
@@ -51,13 +51,13 @@ Bears opened e = KindBearsSerial opened e.kind
 pub record BooksGood (b : Books) (opened : List Key) (es : List Entry) : Type 0 where
   pub size : length b.balances ≡ 1024
   pub balances : BalancesAreSettled es b
-  pub there : All EntryThere es
+  pub there : AllByRecursion EntryThere es
   pub at_cost : (c : ℕ) → pos (sum_of (lot_at_cost c) b.table.lots) ≡ lots_weight_sum c es
   pub weights : (c : ℕ) → 1 ≤ c → c ≤ 16 → weight_sum es c ≡ pos 0
   pub units : UnitsAreSettled es b.table.lots
   pub sound : Sound opened b.table
   pub within : Within b.table
-  pub bears : All (Bears opened) es
+  pub bears : AllByRecursion (Bears opened) es
 
 pub record Good (s : State) (opened : List Key) (xs : List Settlement) : Type 0 where
   pub names : Few s.names
@@ -68,7 +68,7 @@ pub record Good (s : State) (opened : List Key) (xs : List Settlement) : Type 0 
 
 -- Settling a draft.
 
-module _ (o : Order) (b : Books) (opened : List Key) (es : List Entry) (d : Draft) (good : BooksGood b opened es) (there : All PostingThere d.postings) where
+module _ (o : Order) (b : Books) (opened : List Key) (es : List Entry) (d : Draft) (good : BooksGood b opened es) (there : AllByRecursion PostingThere d.postings) where
   abbrev booked : List Entry
   booked = entries_of o d.date b.table d.postings
 
@@ -81,7 +81,7 @@ module _ (o : Order) (b : Books) (opened : List Key) (es : List Entry) (d : Draf
   books_good_after own t25 t26 unmet_lots =
       let C = complete booked in
       let some = all_some d.postings there in
-      let there_C : All EntryThere C = complete_there booked (entries_there o d.date d.postings b.table there) in
+      let there_C : AllByRecursion EntryThere C = complete_there booked (entries_there o d.date d.postings b.table there) in
       record {
         size = balances_length C b.balances ∙ good.size;
         balances = λ a c al ah cl ch.
@@ -226,7 +226,7 @@ module _ (o : Order) (keeps : Keeps o) (s : State) (slip lent : ℕ) (opened : L
   module _ (P : ℕ → Table → PostingKind → Type 0) (n : ℕ)
       (others : (2 ≡ n → ⊥) × (25 ≡ n → ⊥) × (26 ≡ n → ⊥) × (27 ≡ n → ⊥) × (31 ≡ n → ⊥) × (32 ≡ n → ⊥))
       (to : (day : ℕ) (ps : List Posting) → fault_number (first_fault o day s.books.table ps) ≡ Some n → Reaches o day P s.books.table ps)
-      (from : (day : ℕ) (ps : List Posting) → All PostingThere ps → Reaches o day P s.books.table ps → fault_number (first_fault o day s.books.table ps) ≡ Some n) where
+      (from : (day : ℕ) (ps : List Posting) → AllByRecursion PostingThere ps → Reaches o day P s.books.table ps → fault_number (first_fault o day s.books.table ps) ≡ Some n) where
     by_first : (f w : Option Fault) → (fault_number w ≡ Some n → ⊥) → fault_number (or_else f w) ≡ Some n → fault_number f ≡ Some n
     by_first None w no_w e = absurd (no_w e)
     by_first (Some x) w no_w e = e

@@ -1,6 +1,6 @@
 -- Lots bear the serials of their openings, stand in their order, have different keys, and none is empty.
 use Rattle.std.proofs.Common.{◌≡◌, ℕ, ◌+◌, ◌-◌, ◌<◌, ◌≤◌, Bool, true, false, cond, ◌||◌, leb, List, [], ◌∷◌, ◌++◌, length, sym, refl, ap, ◌∙◌, subst, arith, length-append}
-use Rattle.std.specs.List.{AllByRecursion as All}
+use Rattle.std.specs.List.{AllByRecursion}
 use Rattle.std.proofs.lemmas.List.{append-nil, append_assoc, get_or_append_left, get_or_push}
 use Rattle.std.proofs.ByRecursion.{All-weaker, All-push, All-append, All-map}
 use Rattle.std.proofs.lemmas.Bool.{cond_both, cond-false, or_parts, leb-false, both_ways}
@@ -33,20 +33,20 @@ LotOfOpening opened r = SerialOfOpening opened r.serial r.key
 
 pub record Sound (opened : List Key) (t : Table) : Type 0 where
   pub counted : t.next ≡ length opened + 1
-  pub serials : All (LotOfOpening opened) t.lots
+  pub serials : AllByRecursion (LotOfOpening opened) t.lots
   pub rising : SerialsRise t.lots
   pub differ : KeysDiffer t.lots
-  pub some : All (λ r. 1 ≤ r.units) t.lots
+  pub some : AllByRecursion (λ r. 1 ≤ r.units) t.lots
 
 -- What holds of each lot, and of each pair, after units came to one.
 
 pub false_true : {X : Type 0} → false ≡ true → X
 false_true e = let z : ◌≡◌ {A = ℕ} 0 1 = cc in absurd (omega arith)
 
-all_grown : (P : LotRow → Type 0) (k : Key) (n next : ℕ) → ((r : LotRow) → P r → P (with_more r n)) → (lots : List LotRow) → is_open k lots ≡ true → All P lots → All P (add_units k n next lots)
+all_grown : (P : LotRow → Type 0) (k : Key) (n next : ℕ) → ((r : LotRow) → P r → P (with_more r n)) → (lots : List LotRow) → is_open k lots ≡ true → AllByRecursion P lots → AllByRecursion P (add_units k n next lots)
 all_grown P k n next grows [] e all = false_true e
 all_grown P k n next grows (r ∷ rs) e all =
-    by_bool (of_key k r) (λ (b : Bool). (b || is_open k rs) ≡ true → All P (cond b (with_more r n ∷ rs) (r ∷ add_units k n next rs)))
+    by_bool (of_key k r) (λ (b : Bool). (b || is_open k rs) ≡ true → AllByRecursion P (cond b (with_more r n ∷ rs) (r ∷ add_units k n next rs)))
     (λ _ _. (grows r all.0, all.1))
     (λ _ f. (all.0, all_grown P k n next grows rs f all.1))
     e
@@ -63,11 +63,11 @@ pairs_grown R k n next first second (r ∷ rs) e all =
 
 -- What is left of the lots.
 
-pub all_left : (P : LotRow → Type 0) (g : LotRow → ℕ) → ((r : LotRow) → P r → g r < r.units → P (with_fewer r (g r))) → (lots : List LotRow) → All P lots → All P (lots_left g lots)
+pub all_left : (P : LotRow → Type 0) (g : LotRow → ℕ) → ((r : LotRow) → P r → g r < r.units → P (with_fewer r (g r))) → (lots : List LotRow) → AllByRecursion P lots → AllByRecursion P (lots_left g lots)
 all_left P g part [] all = tt
 all_left P g part (r ∷ rs) all =
     let ih = all_left P g part rs all.1 in
-    cond_both (leb r.units (g r)) (lots_left g rs) (with_fewer r (g r) ∷ lots_left g rs) (λ xs. All P xs) (λ _. ih) (λ e. (part r all.0 (leb-false r.units (g r) e), ih))
+    cond_both (leb r.units (g r)) (lots_left g rs) (with_fewer r (g r) ∷ lots_left g rs) (λ xs. AllByRecursion P xs) (λ _. ih) (λ e. (part r all.0 (leb-false r.units (g r) e), ih))
 
 pairs_left : (R : LotRow → LotRow → Type 0) (g : LotRow → ℕ) → ((r s : LotRow) → R r s → R (with_fewer r (g r)) s) → ((r s : LotRow) → R r s → R r (with_fewer s (g s)))
     → (lots : List LotRow) → AllPairs R lots → AllPairs R (lots_left g lots)
@@ -85,7 +85,7 @@ added_new k n next (r ∷ rs) e =
     let p = or_parts (of_key k r) (is_open k rs) e in
     ap (λ (xs : List LotRow). r ∷ xs) (added_new k n next rs p.1) ∙ sym (cond-false (of_key k r) (with_more r n ∷ rs) (r ∷ add_units k n next rs) p.0)
 
-other_keys : (k : Key) (lots : List LotRow) → is_open k lots ≡ false → All (λ r. r.key ≡ k → ⊥) lots
+other_keys : (k : Key) (lots : List LotRow) → is_open k lots ≡ false → AllByRecursion (λ r. r.key ≡ k → ⊥) lots
 other_keys k [] e = tt
 other_keys k (r ∷ rs) e =
     let p = or_parts (of_key k r) (is_open k rs) e in
@@ -136,7 +136,7 @@ module _ (k : Key) (n : ℕ) (t : Table) (opened : List Key) (sound : Sound open
   bought_sound some false e = bought_new some e
 
 -- the lot that a purchase comes to bears a serial of its key
-serial_there : (k : Key) (next : ℕ) (opened : List Key) (lots : List LotRow) → is_open k lots ≡ true → All (LotOfOpening opened) lots → SerialOfOpening opened (serial_for k next lots) k
+serial_there : (k : Key) (next : ℕ) (opened : List Key) (lots : List LotRow) → is_open k lots ≡ true → AllByRecursion (LotOfOpening opened) lots → SerialOfOpening opened (serial_for k next lots) k
 serial_there k next opened [] e all = false_true e
 serial_there k next opened (r ∷ rs) e all =
     by_bool (of_key k r) (λ (b : Bool). of_key k r ≡ b → (b || is_open k rs) ≡ true → SerialOfOpening opened (cond b r.serial (serial_for k next rs)) k)
@@ -185,7 +185,7 @@ kind_sound o day a t (Reduction u commodity cost date) opened some s =
 abbrev Bears : List Key → Entry → Type 0
 Bears opened e = KindBearsSerial opened e.kind
 
-kind_bears : (o : Order) (day line a : ℕ) (t : Table) (kind : PostingKind) (opened : List Key) → Sound opened t → All (Bears (opened ++ opened_by_kind day a t kind)) (entries_of_kind o day line a t kind)
+kind_bears : (o : Order) (day line a : ℕ) (t : Table) (kind : PostingKind) (opened : List Key) → Sound opened t → AllByRecursion (Bears (opened ++ opened_by_kind day a t kind)) (entries_of_kind o day line a t kind)
 kind_bears o day line a t Blank opened s = (tt, tt)
 kind_bears o day line a t (Plain amount commodity) opened s = (tt, tt)
 kind_bears o day line a t (Purchase n commodity cost date) opened s =
@@ -198,7 +198,7 @@ kind_bears o day line a t (Reduction u commodity cost date) opened s =
     (all_draws (λ d. SerialOfOpening (opened ++ []) d.lot.serial d.lot.key) (o.before u) g t.lots
     (All-weaker (LotOfOpening opened) (λ r. (g r ≡ 0 → ⊥) → SerialOfOpening (opened ++ []) r.serial r.key) (λ r m _. opened_more opened [] r.serial r.key m) t.lots s.serials))
 
-pub bears_more : (opened more : List Key) (es : List Entry) → All (Bears opened) es → All (Bears (opened ++ more)) es
+pub bears_more : (opened more : List Key) (es : List Entry) → AllByRecursion (Bears opened) es → AllByRecursion (Bears (opened ++ more)) es
 bears_more opened more es all = All-weaker (Bears opened) (Bears (opened ++ more)) (λ e. kinds e.kind) es all
   where
     kinds : (kind : EntryKind) → KindBearsSerial opened kind → KindBearsSerial (opened ++ more) kind
@@ -209,7 +209,7 @@ bears_more opened more es all = All-weaker (Bears opened) (Bears (opened ++ more
     kinds (Drew draw) m = opened_more opened more draw.lot.serial draw.lot.key m
 
 abbrev pub AllSome : List Posting → Type 0
-AllSome ps = All (λ p. SomeUnits p.kind) ps
+AllSome ps = AllByRecursion (λ p. SomeUnits p.kind) ps
 
 module _ (o : Order) (day : ℕ) where
   pub postings_sound : (ps : List Posting) (t : Table) (opened : List Key) → AllSome ps → Sound opened t → Sound (opened ++ opened_by o day t ps) (table_after o day t ps)
@@ -220,13 +220,13 @@ module _ (o : Order) (day : ℕ) where
       subst (λ (xs : List Key). Sound xs (table_after o day after ps)) (append_assoc opened here (opened_by o day after ps))
       (postings_sound ps after (opened ++ here) some.1 (kind_sound o day p.account t p.kind opened some.0 s))
 
-  pub postings_bear : (ps : List Posting) (t : Table) (opened : List Key) → AllSome ps → Sound opened t → All (Bears (opened ++ opened_by o day t ps)) (entries_of o day t ps)
+  pub postings_bear : (ps : List Posting) (t : Table) (opened : List Key) → AllSome ps → Sound opened t → AllByRecursion (Bears (opened ++ opened_by o day t ps)) (entries_of o day t ps)
   postings_bear [] t opened some s = tt
   postings_bear (p ∷ ps) t opened some s =
       let here = opened_by_kind day p.account t p.kind in
       let after = table_after_posting o day t p in
       let rest = opened_by o day after ps in
-      subst (λ (xs : List Key). All (Bears xs) (entries_of_posting o day t p ++ entries_of o day after ps)) (append_assoc opened here rest)
+      subst (λ (xs : List Key). AllByRecursion (Bears xs) (entries_of_posting o day t p ++ entries_of o day after ps)) (append_assoc opened here rest)
       (All-append (Bears ((opened ++ here) ++ rest)) (entries_of_posting o day t p) (entries_of o day after ps)
       (bears_more (opened ++ here) rest (entries_of_posting o day t p) (kind_bears o day p.line p.account t p.kind opened s))
       (postings_bear ps after (opened ++ here) some.1 (kind_sound o day p.account t p.kind opened some.0 s)))

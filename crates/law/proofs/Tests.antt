@@ -1,6 +1,6 @@
 -- What a call that is not refused tells: no test of its table is met.
 use Rattle.std.proofs.Common.{◌≡◌, ℕ, ◌+◌, ◌<◌, ◌≤◌, Bool, true, false, cond, not, List, [], ◌∷◌, ◌++◌, length, is_some, Some, None, Option, sym, refl, ◌∙◌, ⊎_elim, arith}
-use Rattle.std.specs.List.{AllByRecursion as All}
+use Rattle.std.specs.List.{AllByRecursion}
 use Rattle.std.proofs.lemmas.Bool.{cases_Bool, cond-true, cond-false, cond_both, both_ways}
 use Rattle.refusal.specs.declared.Refusal.{Refusal}
 use Rattle.refusal.specs.declared.Fault.{Fault}
@@ -14,7 +14,7 @@ use Rattle.books.proofs.Nested.{first_at}
 use Rattle.law.proofs.Reaching.{none_some, fault_number}
 
 abbrev pub Unmet : List (Refusal × Bool) → Type 0
-Unmet ts = All (λ t. t.1 ≡ false) ts
+Unmet ts = AllByRecursion (λ t. t.1 ≡ false) ts
 
 pub none_met : (ts : List (Refusal × Bool)) → first_met ts ≡ None → Unmet ts
 none_met [] e = tt
@@ -32,11 +32,11 @@ pub none_met_at : (line : ℕ) (ts : List (Refusal × Bool)) → first_fault_met
 none_met_at line ts e = none_met ts (no_line line (first_met ts) (sym (first_at line ts) ∙ e))
 
 -- what holds of all of two lists holds of all of each
-pub all_front : {X : Type 0} (P : X → Type 0) (xs ys : List X) → All P (xs ++ ys) → All P xs
+pub all_front : {X : Type 0} (P : X → Type 0) (xs ys : List X) → AllByRecursion P (xs ++ ys) → AllByRecursion P xs
 all_front P [] ys all = tt
 all_front P (x ∷ xs) ys all = (all.0, all_front P xs ys all.1)
 
-pub all_right : {X : Type 0} (P : X → Type 0) (xs ys : List X) → All P (xs ++ ys) → All P ys
+pub all_right : {X : Type 0} (P : X → Type 0) (xs ys : List X) → AllByRecursion P (xs ++ ys) → AllByRecursion P ys
 all_right P [] ys all = all
 all_right P (x ∷ xs) ys all = all_right P xs ys all.1
 
@@ -45,7 +45,7 @@ both_none None y e = (refl, e)
 both_none (Some f) y e = absurd (none_some f (sym e))
 
 -- a number that no refusal of the list has does not come back
-pub number_differs : (ts : List (Refusal × Bool)) (n line : ℕ) → All (λ t. number_of t.0 ≡ n → ⊥) ts → fault_number (at_line line (first_met ts)) ≡ Some n → ⊥
+pub number_differs : (ts : List (Refusal × Bool)) (n line : ℕ) → AllByRecursion (λ t. number_of t.0 ≡ n → ⊥) ts → fault_number (at_line line (first_met ts)) ≡ Some n → ⊥
 number_differs [] n line all e = none_some n e
 number_differs (t ∷ ts) n line all e =
     cond_both t.1 (Some t.0) (first_met ts) (λ m. fault_number (at_line line m) ≡ Some n → ⊥) (λ _ e. all.0 (cc)) (λ _. number_differs ts n line all.1) e

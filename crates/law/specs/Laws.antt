@@ -1,6 +1,6 @@
 -- The law over runs. Its words are those of the history (`history_of`); `end` is the ledger after the last call, as the questions show it.
 use Rattle.std.specs.Prelude.{◌≡◌, ◌+◌, List, length}
-use Rattle.std.specs.List.{AllByRecursion as All}
+use Rattle.std.specs.List.{AllByRecursion}
 use Rattle.lots.specs.Orders.{Order, Keeps}
 use Rattle.stock.specs.Kept.{WellKept}
 use Rattle.books.specs.declared.outcome.Outcome.{Outcome}
@@ -20,9 +20,9 @@ pub record Stands (h : History) (end : State) : Type 0 where
   -- at most 256 open lots, each within its ranges, with different keys, in the order of their serials
   pub lots_are_well_kept : WellKept end.books.table
   -- open lots and settled entries bear the serials that were counted, from 1, as lots were opened
-  pub lots_bear_serials : All (λ r. SerialOfOpening h.opened r.serial r.key) end.books.table.lots
+  pub lots_bear_serials : AllByRecursion (λ r. SerialOfOpening h.opened r.serial r.key) end.books.table.lots
   pub next_serial : end.books.table.next ≡ length h.opened + 1
-  pub entries_bear_serials : All (λ e. KindBearsSerial h.opened e.kind) (all_entries h.settlements)
+  pub entries_bear_serials : AllByRecursion (λ e. KindBearsSerial h.opened e.kind) (all_entries h.settlements)
   pub rows_are_counted : end.rows ≡ length (all_entries h.settlements)
   pub transactions_are_counted : end.transactions ≡ length h.settlements
   pub names_are_given : end.names ≡ h.names

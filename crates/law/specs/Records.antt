@@ -1,6 +1,6 @@
 -- What the record holds after a run, where one record is handed from call to call and not touched between.
 use Rattle.std.specs.Prelude.{◌≡◌, ℕ, ◌≤◌, min, Bool, true, false, cond, ◌&&◌, ◌||◌, List, [], ◌∷◌, ◌++◌, length, drop}
-use Rattle.std.specs.List.{AllByRecursion as All}
+use Rattle.std.specs.List.{AllByRecursion}
 use Rattle.lots.specs.Orders.{Order, Keeps}
 use Rattle.record.specs.declared.header.Header.{Header}
 use Rattle.record.specs.Layout.{first_free, header_bytes, rows_bytes}
@@ -54,7 +54,7 @@ LentWithin size (writing_header lent) = lent ≤ size
 -- untouched until a call writes to it; from then on the record of the history
 abbrev pub RecordStandsUnder : Order → Type 0
 RecordStandsUnder o =
-    (calls : List Call) (book : List ℕ) → All (LentWithin (length book)) calls
+    (calls : List Call) (book : List ℕ) → AllByRecursion (LentWithin (length book)) calls
     → record_after_calls o empty_ledger calls book ≡ cond (any_wrote calls (outcomes o empty_ledger calls)) (recorded o (history_of o calls (outcomes o empty_ledger calls)) book) book
 
 -- It holds of every policy that keeps the laws.

@@ -1,7 +1,7 @@
 -- What stands between braces is read as it is written.
 use Rattle.std.proofs.Common.{◌≡◌, ℕ, suc, ◌+◌, ◌<◌, ◌≤◌, Bool, true, false, cond, not, ◌&&◌, eqb, ltb, leb, ◌⊎◌, List, [], ◌∷◌, ◌++◌, length, get_or, take, drop, ℤ, Some, None, Ok, Err, Option, sym, refl, ap, ◌∙◌, subst, ⊎_elim, one-add, arith}
 use Rattle.std.specs.Option.{option_map}
-use Rattle.std.specs.List.{prefix_len, AllByRecursion as All}
+use Rattle.std.specs.List.{prefix_len, AllByRecursion}
 use Rattle.std.proofs.ByRecursion.{All-append, All-weaker}
 use Rattle.std.proofs.lemmas.List.{take-append-drop, drop-drop, take_at, drop_at, length-take, length-append, nil_from_length}
 use Rattle.std.proofs.lemmas.List.Sums.{prefix_len-le-length}
@@ -29,44 +29,44 @@ use Rattle.lines.proofs.Steps.{err_ok, same_ok, from_and_then, from_commodity, t
 abbrev pub Plain : ℕ → Type 0
 Plain b = (45 ≤ b) × (b ≤ 90)
 
-digits_plain : (t : List ℕ) → All Digit t → All Plain t
+digits_plain : (t : List ℕ) → AllByRecursion Digit t → AllByRecursion Plain t
 digits_plain t h = All-weaker Digit Plain (λ b d. (omega arith, omega arith)) t h
 
-point_plain : (t : List ℕ) → All Digit t → All Plain (point t)
+point_plain : (t : List ℕ) → AllByRecursion Digit t → AllByRecursion Plain (point t)
 point_plain [] h = tt
 point_plain (b ∷ bs) h = ((omega arith, omega arith), digits_plain (b ∷ bs) h)
 
-sign_plain : (m : Bool) → All Plain (sign m)
+sign_plain : (m : Bool) → AllByRecursion Plain (sign m)
 sign_plain true = ((omega arith, omega arith), tt)
 sign_plain false = tt
 
-pub number_plain : (t : List ℕ) (v : ℤ) → Denotes t v → All Plain t
+pub number_plain : (t : List ℕ) (v : ℤ) → Denotes t v → AllByRecursion Plain t
 number_plain t v d =
     let m = d.0 in
-    subst (All Plain) (sym d.2)
+    subst (AllByRecursion Plain) (sym d.2)
     (All-append Plain (sign m.minus) (m.whole ++ point m.decimals) (sign_plain m.minus)
     (All-append Plain m.whole (point m.decimals) (digits_plain _ d.1.whole_digits) (point_plain _ d.1.decimal_digits)))
 
-pub date_plain : (t : List ℕ) (n : ℕ) → WritesDate t n → All Plain t
+pub date_plain : (t : List ℕ) (n : ℕ) → WritesDate t n → AllByRecursion Plain t
 date_plain t n w =
     let s = w.0 in
     let hyphen : Plain 45 = (omega arith, omega arith) in
-    subst (All Plain) (sym s.spelled)
+    subst (AllByRecursion Plain) (sym s.spelled)
     (All-append Plain s.year (45 ∷ (s.month ++ 45 ∷ s.day)) (digits_plain _ s.digits.0)
     (hyphen, All-append Plain s.month (45 ∷ s.day) (digits_plain _ s.digits.1) (hyphen, digits_plain _ s.digits.2)))
 
-pub name_plain : (t : List ℕ) → IsCommodityName t → All Plain t
+pub name_plain : (t : List ℕ) → IsCommodityName t → AllByRecursion Plain t
 name_plain t c = All-weaker (λ b. Capital b ⊎ Digit b) Plain (λ b h. ⊎_elim (λ u. (omega arith, omega arith)) (λ d. (omega arith, omega arith)) h) t c.capitals_or_digits
 
-pub plain_unlike : (c : ℕ) → (Plain c → ⊥) → (t : List ℕ) → All Plain t → All (λ b. b ≡ c → ⊥) t
+pub plain_unlike : (c : ℕ) → (Plain c → ⊥) → (t : List ℕ) → AllByRecursion Plain t → AllByRecursion (λ b. b ≡ c → ⊥) t
 plain_unlike c n t h = All-weaker Plain (λ b. b ≡ c → ⊥) (λ b p e. n (subst Plain e p)) t h
 
 -- words
 
-word_test : (t : List ℕ) → 1 ≤ length t → All (λ b. b ≡ 32 → ⊥) t → is_word t ≡ true
+word_test : (t : List ℕ) → 1 ≤ length t → AllByRecursion (λ b. b ≡ 32 → ⊥) t → is_word t ≡ true
 word_test t l h = and_from _ _ (le-leb 1 (length t) l) (passes t h)
   where
-    passes : (t : List ℕ) → All (λ b. b ≡ 32 → ⊥) t → all_in (Except 32) t ≡ true
+    passes : (t : List ℕ) → AllByRecursion (λ b. b ≡ 32 → ⊥) t → all_in (Except 32) t ≡ true
     passes [] h = refl
     passes (b ∷ bs) h = and_from _ _ (ap not (ne_eqb b 32 h.0)) (passes bs h.1)
 
@@ -75,7 +75,7 @@ word_told t e =
     let p = and_parts (leb 1 (length t)) _ e in
     record { some = leb-true _ _ p.0; unspaced = told t p.1 }
   where
-    told : (t : List ℕ) → all_in (Except 32) t ≡ true → All (λ b. b ≡ 32 → ⊥) t
+    told : (t : List ℕ) → all_in (Except 32) t ≡ true → AllByRecursion (λ b. b ≡ 32 → ⊥) t
     told [] e = tt
     told (b ∷ bs) e = let p = and_parts (not (eqb b 32)) _ e in (eqb-false b 32 (not-true _ p.0), told bs p.1)
 
@@ -260,11 +260,11 @@ split_there (b ∷ bs) l =
     here b [] e f = absurd (omega arith)
     here b (c ∷ cs) e f = ap (λ (x : ℕ). x ∷ c ∷ cs) e ∙ ap (λ (x : ℕ). 44 ∷ x ∷ cs) f
 
-no_separator : (t : List ℕ) → All (λ b. b ≡ 44 → ⊥) t → before_separator t ≡ length t
+no_separator : (t : List ℕ) → AllByRecursion (λ b. b ≡ 44 → ⊥) t → before_separator t ≡ length t
 no_separator [] h = refl
 no_separator (b ∷ bs) h = rw (ne_eqb b 44 h.0, no_separator bs h.1, one-add)
 
-separator_found : (a b : List ℕ) → All (λ x. x ≡ 44 → ⊥) a → before_separator (a ++ 44 ∷ (32 ∷ b)) ≡ length a
+separator_found : (a b : List ℕ) → AllByRecursion (λ x. x ≡ 44 → ⊥) a → before_separator (a ++ 44 ∷ (32 ∷ b)) ≡ length a
 separator_found [] b h = refl
 separator_found (x ∷ xs) b h = rw (ne_eqb x 44 h.0, separator_found xs b h.1, one-add)
 
@@ -349,7 +349,7 @@ inside_sound brace s b e =
     parts = cond (ltb (before_separator s.text) (length s.text)) (two_parts s (before_separator s.text)) (one_part s)
 
 -- one part: a date or a cost
-shape_single : (s : Spot) → 1 ≤ length s.text → All (λ b. b ≡ 44 → ⊥) s.text → shape s ≡ one_part s
+shape_single : (s : Spot) → 1 ≤ length s.text → AllByRecursion (λ b. b ≡ 44 → ⊥) s.text → shape s ≡ one_part s
 unfolding shape
 shape_single s l h =
     let m : missing s ≡ false = ne_eqb _ _ (λ z. omega arith) in
@@ -367,13 +367,13 @@ part_cost s c h =
     let w = cost_words s c h in
     rw (n, w)
 
-spaces_unlike : (c : ℕ) → (c ≡ 32 → ⊥) → (t : List ℕ) → Spaces t → All (λ b. b ≡ c → ⊥) t
+spaces_unlike : (c : ℕ) → (c ≡ 32 → ⊥) → (t : List ℕ) → Spaces t → AllByRecursion (λ b. b ≡ c → ⊥) t
 spaces_unlike c n t h = All-weaker (λ b. b ≡ 32) (λ b. b ≡ c → ⊥) (λ b e f. n (sym f ∙ e)) t h
 
 -- no byte of a cost is one that is neither plain nor a space
-pub cost_unlike : (c : ℕ) → (Plain c → ⊥) → (c ≡ 32 → ⊥) → (p : ℕ) (t : List ℕ) (k : CostSaid) → CostForm p t k → All (λ b. b ≡ c → ⊥) t
+pub cost_unlike : (c : ℕ) → (Plain c → ⊥) → (c ≡ 32 → ⊥) → (p : ℕ) (t : List ℕ) (k : CostSaid) → CostForm p t k → AllByRecursion (λ b. b ≡ c → ⊥) t
 cost_unlike c n m p t k h =
-    subst (All (λ (b : ℕ). b ≡ c → ⊥)) (sym h.spelled)
+    subst (AllByRecursion (λ (b : ℕ). b ≡ c → ⊥)) (sym h.spelled)
     (All-append (λ b. b ≡ c → ⊥) k.number.text (h.gap ++ k.commodity.text)
     (plain_unlike c n _ (number_plain _ _ h.denotes))
     (All-append (λ b. b ≡ c → ⊥) h.gap k.commodity.text (spaces_unlike c m _ h.spaces) (plain_unlike c n _ (name_plain _ h.name))))
@@ -423,12 +423,12 @@ inside_complete brace s (cost_and_date c d) h =
     ap (inside_by brace) f.1 ∙ rw (k, m)
 
 -- no byte between braces is a closing brace
-pub braces_unlike : (p : ℕ) (t : List ℕ) (b : BracesSaid) → BracesForm p t b → All (λ x. x ≡ 125 → ⊥) t
-braces_unlike p t empty h = subst (All (λ (x : ℕ). x ≡ 125 → ⊥)) (sym h) tt
+pub braces_unlike : (p : ℕ) (t : List ℕ) (b : BracesSaid) → BracesForm p t b → AllByRecursion (λ x. x ≡ 125 → ⊥) t
+braces_unlike p t empty h = subst (AllByRecursion (λ (x : ℕ). x ≡ 125 → ⊥)) (sym h) tt
 braces_unlike p t (cost c) h = cost_unlike 125 (λ q. omega (arith, q.1)) (λ z. omega arith) p t c h
 braces_unlike p t (date d) h = plain_unlike 125 (λ q. omega (arith, q.1)) t (date_plain t d h)
 braces_unlike p t (cost_and_date c d) h =
-    subst (All (λ (x : ℕ). x ≡ 125 → ⊥)) (sym h.2)
+    subst (AllByRecursion (λ (x : ℕ). x ≡ 125 → ⊥)) (sym h.2)
     (All-append (λ x. x ≡ 125 → ⊥) h.0 (44 ∷ (32 ∷ h.1))
     (cost_unlike 125 (λ q. omega (arith, q.1)) (λ z. omega arith) p h.0 c h.3)
     ((λ e. omega arith), ((λ e. omega arith), plain_unlike 125 (λ q. omega (arith, q.1)) h.1 (date_plain h.1 d h.4))))

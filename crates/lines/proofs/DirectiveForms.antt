@@ -1,7 +1,7 @@
 -- Lines that are no postings say what they are written to say.
 use Rattle.std.proofs.Common.{◌≡◌, ℕ, ◌+◌, ◌≤◌, Bool, true, false, cond, ◌&&◌, eqb, List, [], ◌∷◌, ◌++◌, length, get_or, drop, Ok, Err, codes, Result, sym, refl, ap, ◌∙◌, subst, arith}
 use Rattle.std.specs.Char.{is_ascii_digit}
-use Rattle.std.specs.List.{AllByRecursion as All}
+use Rattle.std.specs.List.{AllByRecursion}
 use Rattle.std.specs.Str.{bytes_eq}
 use Rattle.std.proofs.lemmas.Slice.Eq.{bytes_eq-Decides}
 use Rattle.std.proofs.lemmas.List.{nil_from_length}
@@ -35,7 +35,7 @@ first_place : (line : List ℕ) → (get_or line 0 0 ≡ 32 → ⊥) → field_s
 first_place [] n = omega (arith, start_is [] 0)
 first_place (b ∷ bs) n = let none : run_length Space (b ∷ bs) ≡ 0 = rw (ne_eqb b 32 n) in omega (arith, start_is (b ∷ bs) 0, none)
 
-starts_digit : (year more rest : List ℕ) → All Digit year → length year ≡ 4 → is_ascii_digit (get_or ((year ++ more) ++ rest) 0 0) ≡ true
+starts_digit : (year more rest : List ℕ) → AllByRecursion Digit year → length year ≡ 4 → is_ascii_digit (get_or ((year ++ more) ++ rest) 0 0) ≡ true
 starts_digit [] more rest h l = absurd (omega arith)
 starts_digit (y ∷ ys) more rest h l = (within_decides 48 57 y).1 h.0
 

@@ -1,6 +1,6 @@
 -- The first field of a text, found and written.
 use Rattle.std.proofs.Common.{◌≡◌, ℕ, ◌+◌, ◌<◌, ◌≤◌, Bool, true, false, not, eqb, List, [], ◌∷◌, ◌++◌, length, take, drop, sym, refl, ap, ◌∙◌, subst, ⊎_elim, arith}
-use Rattle.std.specs.List.{prefix_len, AllByRecursion as All}
+use Rattle.std.specs.List.{prefix_len, AllByRecursion}
 use Rattle.std.proofs.lemmas.List.{take-append-drop, drop-drop, take_at, drop_at, length-take, append-nil, drop_all}
 use Rattle.std.proofs.lemmas.List.Sums.{prefix_len-le-length}
 use Rattle.std.proofs.lemmas.Bool.{eqb-true, eqb-false, eq-eqb, ne_eqb, not-true, cases_lt}
@@ -14,19 +14,19 @@ use Rattle.lines.specs.Grammar.{Spaces, Word, Next}
 
 -- spaces and the bytes of a word, tested and told
 
-pub spaces_pass : (t : List ℕ) → Spaces t → All (λ b. in_class Space b ≡ true) t
+pub spaces_pass : (t : List ℕ) → Spaces t → AllByRecursion (λ b. in_class Space b ≡ true) t
 spaces_pass [] h = tt
 spaces_pass (b ∷ bs) h = (eq-eqb b 32 h.0, spaces_pass bs h.1)
 
-pub pass_spaces : (t : List ℕ) → All (λ b. in_class Space b ≡ true) t → Spaces t
+pub pass_spaces : (t : List ℕ) → AllByRecursion (λ b. in_class Space b ≡ true) t → Spaces t
 pass_spaces [] h = tt
 pass_spaces (b ∷ bs) h = (eqb-true b 32 h.0, pass_spaces bs h.1)
 
-pub unlike_pass : (c : ℕ) (t : List ℕ) → All (λ b. b ≡ c → ⊥) t → All (λ b. in_class (Except c) b ≡ true) t
+pub unlike_pass : (c : ℕ) (t : List ℕ) → AllByRecursion (λ b. b ≡ c → ⊥) t → AllByRecursion (λ b. in_class (Except c) b ≡ true) t
 unlike_pass c [] h = tt
 unlike_pass c (b ∷ bs) h = (ap not (ne_eqb b c h.0), unlike_pass c bs h.1)
 
-pub pass_unlike : (c : ℕ) (t : List ℕ) → All (λ b. in_class (Except c) b ≡ true) t → All (λ b. b ≡ c → ⊥) t
+pub pass_unlike : (c : ℕ) (t : List ℕ) → AllByRecursion (λ b. in_class (Except c) b ≡ true) t → AllByRecursion (λ b. b ≡ c → ⊥) t
 pass_unlike c [] h = tt
 pass_unlike c (b ∷ bs) h = (eqb-false b c (not-true _ h.0), pass_unlike c bs h.1)
 
@@ -122,7 +122,7 @@ module _ (line : List ℕ) (from : ℕ) where
         word =
             record {
               some = positive _ some;
-              unspaced = pass_unlike 32 _ (subst (All (λ (b : ℕ). in_class (Except 32) b ≡ true)) (sym text_is) (run_passes (in_class (Except 32)) body));
+              unspaced = pass_unlike 32 _ (subst (AllByRecursion (λ (b : ℕ). in_class (Except 32) b ≡ true)) (sym text_is) (run_passes (in_class (Except 32)) body));
             };
         place = omega (arith, start_is, length-take gap_length here, prefix_len-le-length (in_class Space) here);
         ends = subst FieldEnds (sym at_end) (halt_ends _ (run_halts (in_class (Except 32)) body));

@@ -1,6 +1,6 @@
 -- A line is read exactly as it is written.
 use Rattle.std.proofs.Common.{◌≡◌, ℕ, ◌≤◌, Bool, true, false, ◌&&◌, eqb, leb, List, [], ◌∷◌, length, get_or, Some, None, Ok, Err, Decides, Option, Result, sym, refl, ap, ◌∙◌, subst, ⊎_elim, arith}
-use Rattle.std.specs.List.{AllByRecursion as All, list_all}
+use Rattle.std.specs.List.{AllByRecursion, list_all}
 use Rattle.std.proofs.lemmas.Bool.{cases_Bool, cond-true, cond-false, and_parts, and_from, and_right, leb-true, le-leb, eqb-true, eqb-false, eq-eqb, ne_eqb, false≢true}
 use Rattle.std.proofs.lemmas.Bool.Decides.{Decides-eqb}
 use Rattle.std.proofs.ByRecursion.{Decides-by_and}
@@ -30,7 +30,7 @@ use Rattle.lines.proofs.PostingForms.{posting_sound, posting_complete}
 
 -- bytes
 
-printable_decides : (line : List ℕ) → Decides (all_in Printable line) (All (λ b. (32 ≤ b) × (b ≤ 126)) line)
+printable_decides : (line : List ℕ) → Decides (all_in Printable line) (AllByRecursion (λ b. (32 ≤ b) × (b ≤ 126)) line)
 printable_decides line = Decides-by_and (in_class Printable) (λ b. (32 ≤ b) × (b ≤ 126)) (list_all (in_class Printable)) (λ b. within_decides 32 126 b) refl (λ _ _. refl) line
 
 spaces_decide : (line : List ℕ) → Decides (all_in Space line) (Spaces line)

@@ -1,6 +1,6 @@
 -- The written forms of a line, and what each says. Assumes nothing.
 use Rattle.std.specs.Prelude.{◌≡◌, ℕ, ◌+◌, ◌≤◌, List, [], ◌∷◌, ◌++◌, length, Some, None, Ok, Err, codes, Option, Result, ◌≢◌}
-use Rattle.std.specs.List.{AllByRecursion as All}
+use Rattle.std.specs.List.{AllByRecursion}
 use Rattle.refusal.specs.declared.Fault.{Fault}
 use Rattle.values.specs.Spelling.{Starts, IsCommodityName, IsAccountName}
 use Rattle.fields.specs.Denotes.{Denotes, WritesDate, FieldEnds, Quotes}
@@ -12,12 +12,12 @@ use Rattle.values.specs.declared.flag.Flag.{Flag}
 use Rattle.values.specs.declared.flag.Flag.TheVariants.{Complete, Incomplete}
 
 abbrev pub Spaces : List ℕ → Type 0
-Spaces t = All (λ b. b ≡ 32) t
+Spaces t = AllByRecursion (λ b. b ≡ 32) t
 
 -- a word: some bytes, none of them a space
 pub record Word (t : List ℕ) : Type 0 where
   pub some : 1 ≤ length t
-  pub unspaced : All (λ b. b ≢ 32) t
+  pub unspaced : AllByRecursion (λ b. b ≢ 32) t
 
 -- a text at the place p starts with the field f, behind spaces or none; `rest` stands behind it, at the place q
 pub record Next (p : ℕ) (t : List ℕ) (f : Spot) (rest : List ℕ) (q : ℕ) : Type 0 where
@@ -149,7 +149,7 @@ Form number line (posting p) = Starts (λ b. b ≡ 32) line × PostingForm line 
 -- a line has at most 120 bytes, each of 32 to 126
 pub record Clean (line : List ℕ) : Type 0 where
   pub short : length line ≤ 120
-  pub printable : All (λ b. (32 ≤ b) × (b ≤ 126)) line
+  pub printable : AllByRecursion (λ b. (32 ≤ b) × (b ≤ 126)) line
 
 -- the line of a number says nothing: it is blank
 abbrev pub BlankLine : List ℕ → Type 0

@@ -1,6 +1,6 @@
 -- What the closed form of a reduction draws_in_order.
 use Rattle.std.proofs.Common.{◌≡◌, ℕ, ◌+◌, ◌-◌, ◌<◌, ◌≤◌, min, Bool, true, false, cond, not, ◌&&◌, eqb, leb, List, [], ◌∷◌, sym, refl, ap, ◌∙◌, subst, inl, inr, ⊎_elim, arith}
-use Rattle.std.specs.List.{AllByRecursion as All}
+use Rattle.std.specs.List.{AllByRecursion}
 use Rattle.std.proofs.ByRecursion.{All-weaker}
 use Rattle.std.proofs.lemmas.Bool.{and_from, and_parts, and_right, cond_both, cond-true, cond-false, cases_Bool, cases_lt, both_ways, eqb-true, eqb-false, eq-eqb, ne_eqb}
 use Rattle.lots.specs.declared.rows.LotRow.{LotRow}
@@ -13,11 +13,11 @@ use Rattle.matching.specs.Drawn.{SerialsRise, Member, FromMatch, InOrder, units_
 use Rattle.matching.proofs.Sums.{by_bool, sum_of_same, sum_of_draws, gives_most}
 
 -- by place in the list
-pub all_member : {X : Type 0} (P : X → Type 0) (xs : List X) (x : X) → All P xs → Member xs x → P x
+pub all_member : {X : Type 0} (P : X → Type 0) (xs : List X) (x : X) → AllByRecursion P xs → Member xs x → P x
 all_member P [] x all h = absurd h
 all_member P (y ∷ ys) x all h = ⊎_elim (λ (e : y ≡ x). subst P e all.0) (λ (r : Member ys x). all_member P ys x all.1 r) h
 
-pub all_from_member : {X : Type 0} (P : X → Type 0) (xs : List X) → ((x : X) → Member xs x → P x) → All P xs
+pub all_from_member : {X : Type 0} (P : X → Type 0) (xs : List X) → ((x : X) → Member xs x → P x) → AllByRecursion P xs
 all_from_member P [] f = tt
 all_from_member P (x ∷ xs) f = (f x (inl refl), all_from_member P xs (λ y h. f y (inr h)))
 
@@ -45,7 +45,7 @@ sorted M lt (r ∷ rs) = cond (M r) (insert lt r (sorted M lt rs)) (sorted M lt 
 
 abbrev pub Ordered : (LotRow → LotRow → Bool) → List LotRow → Type 0
 Ordered lt [] = Unit {0}
-Ordered lt (r ∷ rs) = All (λ s. lt r s ≡ true) rs × Ordered lt rs
+Ordered lt (r ∷ rs) = AllByRecursion (λ s. lt r s ≡ true) rs × Ordered lt rs
 
 sum_of_inserted : (lt : LotRow → LotRow → Bool) (f : LotRow → ℕ) (r : LotRow) (xs : List LotRow) → sum_of f (insert lt r xs) ≡ f r + sum_of f xs
 sum_of_inserted lt f r [] = refl
@@ -60,21 +60,21 @@ sum_of_sorted M lt f (r ∷ rs) =
     let i = sum_of_inserted lt f r (sorted M lt rs) in
     by_bool (M r) (λ (b : Bool). sum_of f (cond b (insert lt r (sorted M lt rs)) (sorted M lt rs)) ≡ cond b (f r) 0 + sum_of (λ r. cond (M r) (f r) 0) rs) (λ _. omega arith) (λ _. omega arith)
 
-all_insert : (P : LotRow → Type 0) (lt : LotRow → LotRow → Bool) (r : LotRow) (xs : List LotRow) → P r → All P xs → All P (insert lt r xs)
+all_insert : (P : LotRow → Type 0) (lt : LotRow → LotRow → Bool) (r : LotRow) (xs : List LotRow) → P r → AllByRecursion P xs → AllByRecursion P (insert lt r xs)
 all_insert P lt r [] p all = (p, tt)
-all_insert P lt r (x ∷ xs) p all = cond_both (lt r x) (r ∷ x ∷ xs) (x ∷ insert lt r xs) (λ ys. All P ys) (λ _. (p, all)) (λ _. (all.0, all_insert P lt r xs p all.1))
+all_insert P lt r (x ∷ xs) p all = cond_both (lt r x) (r ∷ x ∷ xs) (x ∷ insert lt r xs) (λ ys. AllByRecursion P ys) (λ _. (p, all)) (λ _. (all.0, all_insert P lt r xs p all.1))
 
-all_sorted : (P : LotRow → Type 0) (M : LotRow → Bool) (lt : LotRow → LotRow → Bool) (xs : List LotRow) → All P xs → All P (sorted M lt xs)
+all_sorted : (P : LotRow → Type 0) (M : LotRow → Bool) (lt : LotRow → LotRow → Bool) (xs : List LotRow) → AllByRecursion P xs → AllByRecursion P (sorted M lt xs)
 all_sorted P M lt [] all = tt
 all_sorted P M lt (r ∷ rs) all =
     let ih = all_sorted P M lt rs all.1 in
-    cond_both (M r) (insert lt r (sorted M lt rs)) (sorted M lt rs) (λ ys. All P ys) (λ _. all_insert P lt r (sorted M lt rs) all.0 ih) (λ _. ih)
+    cond_both (M r) (insert lt r (sorted M lt rs)) (sorted M lt rs) (λ ys. AllByRecursion P ys) (λ _. all_insert P lt r (sorted M lt rs) all.0 ih) (λ _. ih)
 
-sum_of_same_all : (f g : LotRow → ℕ) (xs : List LotRow) → All (λ r. f r ≡ g r) xs → sum_of f xs ≡ sum_of g xs
+sum_of_same_all : (f g : LotRow → ℕ) (xs : List LotRow) → AllByRecursion (λ r. f r ≡ g r) xs → sum_of f xs ≡ sum_of g xs
 sum_of_same_all f g [] all = refl
 sum_of_same_all f g (x ∷ xs) all = let h = all.0 in let ih = sum_of_same_all f g xs all.1 in omega arith
 
-pub sum_of_zero_all : (f : LotRow → ℕ) (xs : List LotRow) → All (λ r. f r ≡ 0) xs → sum_of f xs ≡ 0
+pub sum_of_zero_all : (f : LotRow → ℕ) (xs : List LotRow) → AllByRecursion (λ r. f r ≡ 0) xs → sum_of f xs ≡ 0
 sum_of_zero_all f [] all = refl
 sum_of_zero_all f (x ∷ xs) all = let h = all.0 in let ih = sum_of_zero_all f xs all.1 in omega arith
 
@@ -96,15 +96,15 @@ sum_of_one f (x ∷ xs) r ri m =
     m
 
 -- draws
-all_insert_draw : (P : Draw → Type 0) (lt : LotRow → LotRow → Bool) (d : Draw) (ds : List Draw) → P d → All P ds → All P (insert_draw lt d ds)
+all_insert_draw : (P : Draw → Type 0) (lt : LotRow → LotRow → Bool) (d : Draw) (ds : List Draw) → P d → AllByRecursion P ds → AllByRecursion P (insert_draw lt d ds)
 all_insert_draw P lt d [] p all = (p, tt)
-all_insert_draw P lt d (e ∷ es) p all = cond_both (lt d.lot e.lot) (d ∷ e ∷ es) (e ∷ insert_draw lt d es) (λ ys. All P ys) (λ _. (p, all)) (λ _. (all.0, all_insert_draw P lt d es p all.1))
+all_insert_draw P lt d (e ∷ es) p all = cond_both (lt d.lot e.lot) (d ∷ e ∷ es) (e ∷ insert_draw lt d es) (λ ys. AllByRecursion P ys) (λ _. (p, all)) (λ _. (all.0, all_insert_draw P lt d es p all.1))
 
-pub all_draws : (P : Draw → Type 0) (lt : LotRow → LotRow → Bool) (g : LotRow → ℕ) (xs : List LotRow) → All (λ r. (g r ≡ 0 → ⊥) → P (record { lot = r; units = g r })) xs → All P (draws_in_order lt g xs)
+pub all_draws : (P : Draw → Type 0) (lt : LotRow → LotRow → Bool) (g : LotRow → ℕ) (xs : List LotRow) → AllByRecursion (λ r. (g r ≡ 0 → ⊥) → P (record { lot = r; units = g r })) xs → AllByRecursion P (draws_in_order lt g xs)
 all_draws P lt g [] all = tt
 all_draws P lt g (r ∷ rs) all =
     let ih = all_draws P lt g rs all.1 in
-    cond_both (eqb (g r) 0) (draws_in_order lt g rs) (insert_draw lt (record { lot = r; units = g r }) (draws_in_order lt g rs)) (λ ds. All P ds)
+    cond_both (eqb (g r) 0) (draws_in_order lt g rs) (insert_draw lt (record { lot = r; units = g r }) (draws_in_order lt g rs)) (λ ds. AllByRecursion P ds)
     (λ _. ih)
     (λ e. all_insert_draw P lt (record { lot = r; units = g r }) (draws_in_order lt g rs) (all.0 (eqb-false (g r) 0 e)) ih)
 
@@ -128,7 +128,7 @@ member_draws lt g (r ∷ rs) a m ne =
     (λ (q : Member rs a). member_insert_there lt (record { lot = r; units = g r }) (record { lot = a; units = g a }) (draws_in_order lt g rs) (member_draws lt g rs a q ne))
     m)
 
-pub left_same : (f g : LotRow → ℕ) (xs : List LotRow) → All (λ r. f r ≡ g r) xs → lots_left f xs ≡ lots_left g xs
+pub left_same : (f g : LotRow → ℕ) (xs : List LotRow) → AllByRecursion (λ r. f r ≡ g r) xs → lots_left f xs ≡ lots_left g xs
 left_same f g [] all = refl
 left_same f g (r ∷ rs) all =
     ap (λ (n : ℕ). cond (leb r.units n) (lots_left f rs) (with_fewer r n ∷ lots_left f rs)) all.0
@@ -152,7 +152,7 @@ module _ (M : LotRow → Bool) (lt : LotRow → LotRow → Bool)
       (let p = cond-false (M a && lt a a) a.units 0 (and_right (M a) (lt a a) (irr a)) in
       let q = cond-true (M a && lt a b) a.units 0 (and_from (M a) (lt a b) fits before) in omega arith)
 
-  ordered_insert : (r : LotRow) (xs : List LotRow) → All (λ s. r.serial ≡ s.serial → ⊥) xs → Ordered lt xs → Ordered lt (insert lt r xs)
+  ordered_insert : (r : LotRow) (xs : List LotRow) → AllByRecursion (λ s. r.serial ≡ s.serial → ⊥) xs → Ordered lt xs → Ordered lt (insert lt r xs)
   ordered_insert r [] apart o = (tt, tt)
   ordered_insert r (x ∷ xs) apart o =
       cond_both (lt r x) (r ∷ x ∷ xs) (x ∷ insert lt r xs) (λ ys. Ordered lt ys)
@@ -192,7 +192,7 @@ module _ (M : LotRow → Bool) (lt : LotRow → LotRow → Bool)
       let d = sum_of_sorted M lt (λ r. r.units) xs in
       omega arith
 
-  module _ (u : ℕ) (xs : List LotRow) (ri : SerialsRise xs) (some : All (λ r. 1 ≤ r.units) xs) (enough : u ≤ units_matching M xs) where
+  module _ (u : ℕ) (xs : List LotRow) (ri : SerialsRise xs) (some : AllByRecursion (λ r. 1 ≤ r.units) xs) (enough : u ≤ units_matching M xs) where
     exactly_u : sum_of (λ d. d.units) (draws_in_order lt (gives M lt u xs) xs) ≡ u
     exactly_u =
         let a = sum_of_draws (λ d. d.units) lt (gives M lt u xs) (λ r z. z) xs in
@@ -202,11 +202,11 @@ module _ (M : LotRow → Bool) (lt : LotRow → LotRow → Bool)
     fits_if : (r : LotRow) → (gives M lt u xs r ≡ 0 → ⊥) → M r ≡ true
     fits_if r ne = ⊎_elim (λ (y : M r ≡ true). y) (λ (n : M r ≡ false). absurd (ne (cond-false (M r) (min r.units (u - units_before M lt xs r)) 0 n))) (cases_Bool (M r))
 
-    all_from_matches : All (FromMatch M xs) (draws_in_order lt (gives M lt u xs) xs)
+    all_from_matches : AllByRecursion (FromMatch M xs) (draws_in_order lt (gives M lt u xs) xs)
     all_from_matches = all_draws (FromMatch M xs) lt (gives M lt u xs) xs (all_from_member (λ r. (gives M lt u xs r ≡ 0 → ⊥) → FromMatch M xs (record { lot = r; units = gives M lt u xs r })) xs
         (λ r there ne. record { there = there; fits = fits_if r ne; some = omega arith; most = gives_most M lt u xs r }))
 
-    order_insert : (d : Draw) (ds : List Draw) → All (λ e. d.lot.serial ≡ e.lot.serial → ⊥) ds → InOrder lt ds → InOrder lt (insert_draw lt d ds)
+    order_insert : (d : Draw) (ds : List Draw) → AllByRecursion (λ e. d.lot.serial ≡ e.lot.serial → ⊥) ds → InOrder lt ds → InOrder lt (insert_draw lt d ds)
     order_insert d [] apart o = (tt, tt)
     order_insert d (e ∷ es) apart o =
         cond_both (lt d.lot e.lot) (d ∷ e ∷ es) (e ∷ insert_draw lt d es) (λ ys. InOrder lt ys)
@@ -230,7 +230,7 @@ module _ (M : LotRow → Bool) (lt : LotRow → LotRow → Bool)
         let with_more : units_before M lt xs r < u = ⊎_elim (λ (l : units_before M lt xs r < u). l) (λ (l : u ≤ units_before M lt xs r). absurd (left (omega arith))) (cases_lt (units_before M lt xs r) u) in
         omega arith
 
-    all_emptied : All (λ d. (a : LotRow) → Member xs a → M a ≡ true → lt a d.lot ≡ true → Member (draws_in_order lt (gives M lt u xs) xs) (record { lot = a; units = a.units })) (draws_in_order lt (gives M lt u xs) xs)
+    all_emptied : AllByRecursion (λ d. (a : LotRow) → Member xs a → M a ≡ true → lt a d.lot ≡ true → Member (draws_in_order lt (gives M lt u xs) xs) (record { lot = a; units = a.units })) (draws_in_order lt (gives M lt u xs) xs)
     all_emptied = all_draws (λ d. (a : LotRow) → Member xs a → M a ≡ true → lt a d.lot ≡ true → Member (draws_in_order lt (gives M lt u xs) xs) (record { lot = a; units = a.units })) lt (gives M lt u xs) xs
         (all_from_member (λ r. (gives M lt u xs r ≡ 0 → ⊥) → (a : LotRow) → Member xs a → M a ≡ true → lt a r ≡ true → Member (draws_in_order lt (gives M lt u xs) xs) (record { lot = a; units = a.units })) xs
         (λ r _ ne a there fits before.

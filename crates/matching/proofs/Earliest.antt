@@ -1,6 +1,6 @@
 -- The earliest matching lot: what the closed form names is what the relation says, and there is one.
 use Rattle.std.proofs.Common.{◌≡◌, ℕ, zero, suc, ◌<◌, ◌≤◌, Bool, true, false, not, List, [], ◌∷◌, length, get_or, Some, None, Option, sym, refl, ap, ◌∙◌, subst, inl, inr, ⊎_elim, arith}
-use Rattle.std.specs.List.{AllByRecursion as All}
+use Rattle.std.specs.List.{AllByRecursion}
 use Rattle.std.proofs.ByRecursion.{All-from_get_or}
 use Rattle.std.proofs.lemmas.Bool.{cond_both, cond-false, cases_Bool, cases_eq, both_ways}
 use Rattle.lots.specs.declared.rows.LotRow.{LotRow}
@@ -14,7 +14,7 @@ use Rattle.matching.proofs.Drawing.{all_member}
 
 -- the earliest matching lot, if one matches
 abbrev Best : (LotRow → Bool) → (LotRow → LotRow → Bool) → List LotRow → Option LotRow → Type 0
-Best M lt xs None = All (λ r. M r ≡ false) xs
+Best M lt xs None = AllByRecursion (λ r. M r ≡ false) xs
 Best M lt xs (Some b) = Earliest M lt xs b
 
 member_same : (xs : List LotRow) → SerialsRise xs → (a b : LotRow) → Member xs a → Member xs b → a.serial ≡ b.serial → a ≡ b
@@ -102,7 +102,7 @@ earliest_at M lt xs i e = record {
   least = λ a there fits. all_member (λ r. M r ≡ true → lt r (get_or xs i no_lot) ≡ false) xs a (All-from_get_or (λ r. M r ≡ true → lt r (get_or xs i no_lot) ≡ false) xs no_lot e.least) there fits;
 }
 
-none_earliest : (M : LotRow → Bool) (lt : LotRow → LotRow → Bool) (xs : List LotRow) → All (λ r. M r ≡ false) xs → earliest M lt xs ≡ None
+none_earliest : (M : LotRow → Bool) (lt : LotRow → LotRow → Bool) (xs : List LotRow) → AllByRecursion (λ r. M r ≡ false) xs → earliest M lt xs ≡ None
 none_earliest M lt [] all = refl
 none_earliest M lt (r ∷ rs) all = cond-false (M r) (earlier lt r (earliest M lt rs)) (earliest M lt rs) all.0 ∙ none_earliest M lt rs all.1
 

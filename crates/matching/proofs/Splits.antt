@@ -1,6 +1,6 @@
 -- A list as the part before one element, that element, and the part behind it.
 use Rattle.std.proofs.Common.{◌≡◌, ℕ, zero, suc, ◌+◌, ◌<◌, Bool, true, false, not, List, [], ◌∷◌, ◌++◌, length, get_or, take, drop, set, refl, ap, ◌∙◌, subst, arith}
-use Rattle.std.specs.List.{AllByRecursion as All}
+use Rattle.std.specs.List.{AllByRecursion}
 use Rattle.std.proofs.ByRecursion.{All-weaker, All-push}
 use Rattle.lots.specs.declared.rows.LotRow.{LotRow}
 use Rattle.lots.specs.Orders.{Order, Keeps}
@@ -27,15 +27,15 @@ length_split [] x zs = omega arith
 length_split (y ∷ ys) x zs = let ih = length_split ys x zs in omega arith
 
 -- what holds of each element
-pub all_here : {X : Type 0} (P : X → Type 0) (ys : List X) (x : X) (zs : List X) → All P (ys ++ x ∷ zs) → P x
+pub all_here : {X : Type 0} (P : X → Type 0) (ys : List X) (x : X) (zs : List X) → AllByRecursion P (ys ++ x ∷ zs) → P x
 all_here P [] x zs all = all.0
 all_here P (y ∷ ys) x zs all = all_here P ys x zs all.1
 
-pub all_without : {X : Type 0} (P : X → Type 0) (ys : List X) (x : X) (zs : List X) → All P (ys ++ x ∷ zs) → All P (ys ++ zs)
+pub all_without : {X : Type 0} (P : X → Type 0) (ys : List X) (x : X) (zs : List X) → AllByRecursion P (ys ++ x ∷ zs) → AllByRecursion P (ys ++ zs)
 all_without P [] x zs all = all.1
 all_without P (y ∷ ys) x zs all = (all.0, all_without P ys x zs all.1)
 
-pub all_replaced : {X : Type 0} (P : X → Type 0) (ys : List X) (x x' : X) (zs : List X) → P x' → All P (ys ++ x ∷ zs) → All P (ys ++ x' ∷ zs)
+pub all_replaced : {X : Type 0} (P : X → Type 0) (ys : List X) (x x' : X) (zs : List X) → P x' → AllByRecursion P (ys ++ x ∷ zs) → AllByRecursion P (ys ++ x' ∷ zs)
 all_replaced P [] x x' zs p all = (p, all.1)
 all_replaced P (y ∷ ys) x x' zs p all = (all.0, all_replaced P ys x x' zs p all.1)
 
@@ -48,16 +48,16 @@ pub pairs_replaced : {X : Type 0} (R : X → X → Type 0) (ys : List X) (x x' :
 pairs_replaced R [] x x' zs behind front p = (All-weaker (R x) (R x') front zs p.0, p.1)
 pairs_replaced R (y ∷ ys) x x' zs behind front p = (all_replaced (R y) ys x x' zs (behind y (all_here (R y) ys x zs p.0)) p.0, pairs_replaced R ys x x' zs behind front p.1)
 
-pub pairs_push : {X : Type 0} (R : X → X → Type 0) (xs : List X) (x : X) → All (λ r. R r x) xs → AllPairs R xs → AllPairs R (xs ++ x ∷ [])
+pub pairs_push : {X : Type 0} (R : X → X → Type 0) (xs : List X) (x : X) → AllByRecursion (λ r. R r x) xs → AllPairs R xs → AllPairs R (xs ++ x ∷ [])
 pairs_push R [] x all p = (tt, tt)
 pairs_push R (y ∷ ys) x all p = (All-push (R y) ys x p.0 all.0, pairs_push R ys x all.1 p.1)
 
 -- each other element stands before x or behind it
-pub pairs_others : {X : Type 0} (R : X → X → Type 0) (P : X → Type 0) (ys : List X) (x : X) (zs : List X) → ((r : X) → R r x → P r) → ((r : X) → R x r → P r) → AllPairs R (ys ++ x ∷ zs) → All P (ys ++ zs)
+pub pairs_others : {X : Type 0} (R : X → X → Type 0) (P : X → Type 0) (ys : List X) (x : X) (zs : List X) → ((r : X) → R r x → P r) → ((r : X) → R x r → P r) → AllPairs R (ys ++ x ∷ zs) → AllByRecursion P (ys ++ zs)
 pairs_others R P [] x zs before behind p = All-weaker (R x) P behind zs p.0
 pairs_others R P (y ∷ ys) x zs before behind p = (before y (all_here (R y) ys x zs p.0), pairs_others R P ys x zs before behind p.1)
 
-pub all_zip : {X : Type 0} (P Q R : X → Type 0) → ((x : X) → P x → Q x → R x) → (xs : List X) → All P xs → All Q xs → All R xs
+pub all_zip : {X : Type 0} (P Q R : X → Type 0) → ((x : X) → P x → Q x → R x) → (xs : List X) → AllByRecursion P xs → AllByRecursion Q xs → AllByRecursion R xs
 all_zip P Q R f [] p q = tt
 all_zip P Q R f (x ∷ xs) p q = (f x p.0 q.0, all_zip P Q R f xs p.1 q.1)
 
@@ -78,6 +78,6 @@ leads_at o keeps M u xs rise i e =
       others = all_zip (λ r. M r ≡ true → lt r x ≡ false) (λ r. x.serial ≡ r.serial → ⊥) (λ r. M r ≡ true → (lt r x ≡ false) × (lt x r ≡ true))
           (λ r l ne fits. (l fits, keeps.exactly_one u x r ne ∙ ap not (l fits)))
           (take i xs ++ drop (suc i) xs)
-          (all_without (λ r. M r ≡ true → lt r x ≡ false) (take i xs) x (drop (suc i) xs) (subst (λ (zs : List LotRow). All (λ r. M r ≡ true → lt r x ≡ false) zs) split least))
+          (all_without (λ r. M r ≡ true → lt r x ≡ false) (take i xs) x (drop (suc i) xs) (subst (λ (zs : List LotRow). AllByRecursion (λ r. M r ≡ true → lt r x ≡ false) zs) split least))
           apart;
     }

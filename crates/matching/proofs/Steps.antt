@@ -1,7 +1,7 @@
 -- One draw from the earliest matching lot x, which stands between the lots ys and zs, and then the rest.
 use Rattle.std.proofs.Common.{◌≡◌, ℕ, ◌+◌, ◌-◌, ◌<◌, ◌≤◌, min, Bool, true, false, cond, ◌&&◌, eqb, leb, List, [], ◌∷◌, ◌++◌, refl, ap, ◌∙◌, arith}
 use native.Mathlib.Nat.{sub-zero}
-use Rattle.std.specs.List.{AllByRecursion as All}
+use Rattle.std.specs.List.{AllByRecursion}
 use Rattle.std.proofs.ByRecursion.{All-weaker}
 use Rattle.std.proofs.lemmas.Bool.{and_from, and_right, cond-true, cond-false, le-leb, lt-leb, eq-eqb, ne_eqb, eqb-false}
 use Rattle.lots.specs.declared.rows.LotRow.{LotRow}
@@ -18,24 +18,24 @@ sum_of_split f [] x zs = refl
 sum_of_split f (y ∷ ys) x zs = let ih = sum_of_split f ys x zs in omega arith
 
 -- draws
-draws_same : (lt : LotRow → LotRow → Bool) (f g : LotRow → ℕ) (xs : List LotRow) → All (λ r. f r ≡ g r) xs → draws_in_order lt f xs ≡ draws_in_order lt g xs
+draws_same : (lt : LotRow → LotRow → Bool) (f g : LotRow → ℕ) (xs : List LotRow) → AllByRecursion (λ r. f r ≡ g r) xs → draws_in_order lt f xs ≡ draws_in_order lt g xs
 draws_same lt f g [] all = refl
 draws_same lt f g (r ∷ rs) all =
     ap (λ (n : ℕ). cond (eqb n 0) (draws_in_order lt f rs) (insert_draw lt (record { lot = r; units = n }) (draws_in_order lt f rs))) all.0
     ∙ ap (λ (ds : List Draw). cond (eqb (g r) 0) ds (insert_draw lt (record { lot = r; units = g r }) ds)) (draws_same lt f g rs all.1)
 
-draws_none : (lt : LotRow → LotRow → Bool) (f : LotRow → ℕ) (xs : List LotRow) → All (λ r. f r ≡ 0) xs → draws_in_order lt f xs ≡ []
+draws_none : (lt : LotRow → LotRow → Bool) (f : LotRow → ℕ) (xs : List LotRow) → AllByRecursion (λ r. f r ≡ 0) xs → draws_in_order lt f xs ≡ []
 draws_none lt f [] all = refl
 draws_none lt f (r ∷ rs) all =
     cond-true (eqb (f r) 0) (draws_in_order lt f rs) (insert_draw lt (record { lot = r; units = f r }) (draws_in_order lt f rs)) (eq-eqb (f r) 0 all.0) ∙ draws_none lt f rs all.1
 
-insert_front : (lt : LotRow → LotRow → Bool) (d : Draw) (ds : List Draw) → All (λ e. lt d.lot e.lot ≡ true) ds → insert_draw lt d ds ≡ d ∷ ds
+insert_front : (lt : LotRow → LotRow → Bool) (d : Draw) (ds : List Draw) → AllByRecursion (λ e. lt d.lot e.lot ≡ true) ds → insert_draw lt d ds ≡ d ∷ ds
 insert_front lt d [] all = refl
 insert_front lt d (e ∷ es) all = cond-true (lt d.lot e.lot) (d ∷ e ∷ es) (e ∷ insert_draw lt d es) all.0
 
 -- x gives something, and comes before each other lot that does
 draws_first : (lt : LotRow → LotRow → Bool) (f : LotRow → ℕ) (ys : List LotRow) (x : LotRow) (zs : List LotRow) → (f x ≡ 0 → ⊥)
-    → All (λ r. (f r ≡ 0 → ⊥) → (lt r x ≡ false) × (lt x r ≡ true)) (ys ++ zs)
+    → AllByRecursion (λ r. (f r ≡ 0 → ⊥) → (lt r x ≡ false) × (lt x r ≡ true)) (ys ++ zs)
     → draws_in_order lt f (ys ++ x ∷ zs) ≡ record { lot = x; units = f x } ∷ draws_in_order lt f (ys ++ zs)
 draws_first lt f [] x zs some all =
     cond-false (eqb (f x) 0) (draws_in_order lt f zs) (insert_draw lt (record { lot = x; units = f x }) (draws_in_order lt f zs)) (ne_eqb (f x) 0 some)
@@ -54,7 +54,7 @@ draws_first lt f (y ∷ ys) x zs some all =
 fewer_none : (r : LotRow) → with_fewer r 0 ≡ r
 fewer_none r = ap (λ (n : ℕ). record { key = r.key; units = n; serial = r.serial }) (sub-zero r.units)
 
-left_none : (f : LotRow → ℕ) (xs : List LotRow) → All (λ r. f r ≡ 0) xs → All (λ r. 1 ≤ r.units) xs → lots_left f xs ≡ xs
+left_none : (f : LotRow → ℕ) (xs : List LotRow) → AllByRecursion (λ r. f r ≡ 0) xs → AllByRecursion (λ r. 1 ≤ r.units) xs → lots_left f xs ≡ xs
 left_none f [] none some = refl
 left_none f (r ∷ rs) none some =
     let z = none.0 in
@@ -68,7 +68,7 @@ left_gone : (f : LotRow → ℕ) (ys : List LotRow) (x : LotRow) (zs : List LotR
 left_gone f [] x zs h = cond-true (leb x.units (f x)) (lots_left f zs) (with_fewer x (f x) ∷ lots_left f zs) (le-leb x.units (f x) h)
 left_gone f (y ∷ ys) x zs h = ap (λ (rs : List LotRow). cond (leb y.units (f y)) rs (with_fewer y (f y) ∷ rs)) (left_gone f ys x zs h)
 
-left_part : (f : LotRow → ℕ) (ys : List LotRow) (x : LotRow) (zs : List LotRow) → f x < x.units → All (λ r. f r ≡ 0) (ys ++ zs) → All (λ r. 1 ≤ r.units) (ys ++ zs)
+left_part : (f : LotRow → ℕ) (ys : List LotRow) (x : LotRow) (zs : List LotRow) → f x < x.units → AllByRecursion (λ r. f r ≡ 0) (ys ++ zs) → AllByRecursion (λ r. 1 ≤ r.units) (ys ++ zs)
     → lots_left f (ys ++ x ∷ zs) ≡ ys ++ with_fewer x (f x) ∷ zs
 left_part f [] x zs h none some =
     cond-false (leb x.units (f x)) (lots_left f zs) (with_fewer x (f x) ∷ lots_left f zs) (lt-leb x.units (f x) h)
@@ -86,7 +86,7 @@ left_part f (y ∷ ys) x zs h none some =
 pub record Leads (M : LotRow → Bool) (lt : LotRow → LotRow → Bool) (ys : List LotRow) (x : LotRow) (zs : List LotRow) : Type 0 where
   pub fits : M x ≡ true
   pub own : lt x x ≡ false
-  pub others : All (λ r. M r ≡ true → (lt r x ≡ false) × (lt x r ≡ true)) (ys ++ zs)
+  pub others : AllByRecursion (λ r. M r ≡ true → (lt r x ≡ false) × (lt x r ≡ true)) (ys ++ zs)
 
 module _ (M : LotRow → Bool) (lt : LotRow → LotRow → Bool) (ys : List LotRow) (x : LotRow) (zs : List LotRow) (leads : Leads M lt ys x zs) where
   -- nothing comes before x
@@ -111,20 +111,20 @@ module _ (M : LotRow → Bool) (lt : LotRow → LotRow → Bool) (ys : List LotR
   gives_x : (n : ℕ) → gives M lt n (ys ++ x ∷ zs) x ≡ min x.units n
   gives_x n = let z = before_none in cond-true (M x) (min x.units (n - units_before M lt (ys ++ x ∷ zs) x)) 0 leads.fits ∙ omega arith
 
-  gives_others : (n : ℕ) → x.units ≤ n → All (λ r. gives M lt n (ys ++ x ∷ zs) r ≡ gives M lt (n - x.units) (ys ++ zs) r) (ys ++ zs)
+  gives_others : (n : ℕ) → x.units ≤ n → AllByRecursion (λ r. gives M lt n (ys ++ x ∷ zs) r ≡ gives M lt (n - x.units) (ys ++ zs) r) (ys ++ zs)
   gives_others n h = All-weaker (λ r. M r ≡ true → (lt r x ≡ false) × (lt x r ≡ true)) (λ r. gives M lt n (ys ++ x ∷ zs) r ≡ gives M lt (n - x.units) (ys ++ zs) r)
       (λ r k. by_bool (M r) (λ (b : Bool). (b ≡ true → (lt r x ≡ false) × (lt x r ≡ true)) → cond b (min r.units (n - units_before M lt (ys ++ x ∷ zs) r)) 0 ≡ cond b (min r.units (n - x.units - units_before M lt (ys ++ zs) r)) 0)
       (λ _ k. let m = before_more r (k refl).1 in omega arith) (λ _ _. refl) k)
       (ys ++ zs) leads.others
 
-  gives_nothing : (n : ℕ) → n ≤ x.units → All (λ r. gives M lt n (ys ++ x ∷ zs) r ≡ 0) (ys ++ zs)
+  gives_nothing : (n : ℕ) → n ≤ x.units → AllByRecursion (λ r. gives M lt n (ys ++ x ∷ zs) r ≡ 0) (ys ++ zs)
   gives_nothing n h = All-weaker (λ r. M r ≡ true → (lt r x ≡ false) × (lt x r ≡ true)) (λ r. gives M lt n (ys ++ x ∷ zs) r ≡ 0)
       (λ r k. by_bool (M r) (λ (b : Bool). (b ≡ true → (lt r x ≡ false) × (lt x r ≡ true)) → cond b (min r.units (n - units_before M lt (ys ++ x ∷ zs) r)) 0 ≡ 0)
       (λ _ k. let m = before_more r (k refl).1 in omega arith) (λ _ _. refl) k)
       (ys ++ zs) leads.others
 
   -- only a matching lot gives something
-  ordered : (n : ℕ) → All (λ r. (gives M lt n (ys ++ x ∷ zs) r ≡ 0 → ⊥) → (lt r x ≡ false) × (lt x r ≡ true)) (ys ++ zs)
+  ordered : (n : ℕ) → AllByRecursion (λ r. (gives M lt n (ys ++ x ∷ zs) r ≡ 0 → ⊥) → (lt r x ≡ false) × (lt x r ≡ true)) (ys ++ zs)
   ordered n = All-weaker (λ r. M r ≡ true → (lt r x ≡ false) × (lt x r ≡ true)) (λ r. (gives M lt n (ys ++ x ∷ zs) r ≡ 0 → ⊥) → (lt r x ≡ false) × (lt x r ≡ true))
       (λ r k. by_bool (M r) (λ (b : Bool). (b ≡ true → (lt r x ≡ false) × (lt x r ≡ true)) → (cond b (min r.units (n - units_before M lt (ys ++ x ∷ zs) r)) 0 ≡ 0 → ⊥) → (lt r x ≡ false) × (lt x r ≡ true))
       (λ _ k _. k refl) (λ _ _ ne. absurd (ne refl)) k)
@@ -153,7 +153,7 @@ module _ (M : LotRow → Bool) (lt : LotRow → LotRow → Bool) (ys : List LotR
       ∙ ap (λ (m : ℕ). record { lot = x; units = m } ∷ draws_in_order lt f (ys ++ zs)) g
       ∙ ap (λ (ds : List Draw). record { lot = x; units = n } ∷ ds) (draws_none lt f (ys ++ zs) (gives_nothing n (omega arith)))
 
-  pub left_in_part : (n : ℕ) → n < x.units → All (λ r. 1 ≤ r.units) (ys ++ zs) → left_over M lt n (ys ++ x ∷ zs) ≡ ys ++ with_fewer x n ∷ zs
+  pub left_in_part : (n : ℕ) → n < x.units → AllByRecursion (λ r. 1 ≤ r.units) (ys ++ zs) → left_over M lt n (ys ++ x ∷ zs) ≡ ys ++ with_fewer x n ∷ zs
   left_in_part n h some =
       let f = gives M lt n (ys ++ x ∷ zs) in
       let g : f x ≡ n = let e = gives_x n in omega arith in
@@ -167,12 +167,12 @@ module _ (M : LotRow → Bool) (lt : LotRow → LotRow → Bool) (ys : List LotR
       omega arith
 
 -- nothing is asked
-gives_zero : (M : LotRow → Bool) (lt : LotRow → LotRow → Bool) (xs ys : List LotRow) → All (λ r. gives M lt 0 xs r ≡ 0) ys
+gives_zero : (M : LotRow → Bool) (lt : LotRow → LotRow → Bool) (xs ys : List LotRow) → AllByRecursion (λ r. gives M lt 0 xs r ≡ 0) ys
 gives_zero M lt xs [] = tt
 gives_zero M lt xs (r ∷ rs) = (by_bool (M r) (λ (b : Bool). cond b (min r.units (0 - units_before M lt xs r)) 0 ≡ 0) (λ _. omega arith) (λ _. refl), gives_zero M lt xs rs)
 
 pub draws_zero : (M : LotRow → Bool) (lt : LotRow → LotRow → Bool) (xs : List LotRow) → draws M lt 0 xs ≡ []
 draws_zero M lt xs = draws_none lt (gives M lt 0 xs) xs (gives_zero M lt xs xs)
 
-pub left_zero : (M : LotRow → Bool) (lt : LotRow → LotRow → Bool) (xs : List LotRow) → All (λ r. 1 ≤ r.units) xs → left_over M lt 0 xs ≡ xs
+pub left_zero : (M : LotRow → Bool) (lt : LotRow → LotRow → Bool) (xs : List LotRow) → AllByRecursion (λ r. 1 ≤ r.units) xs → left_over M lt 0 xs ≡ xs
 left_zero M lt xs some = left_none (gives M lt 0 xs) xs (gives_zero M lt xs xs) some

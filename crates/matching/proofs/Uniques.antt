@@ -1,6 +1,6 @@
 -- `Drawn` leaves one answer.
 use Rattle.std.proofs.Common.{◌≡◌, ℕ, ◌-◌, ◌≤◌, min, Bool, true, false, cond, eqb, ◌⊎◌, List, [], ◌∷◌, sym, refl, ap, ◌∙◌, subst, inl, inr, ⊎_elim, arith}
-use Rattle.std.specs.List.{AllByRecursion as All}
+use Rattle.std.specs.List.{AllByRecursion}
 use Rattle.std.proofs.ByRecursion.{All-weaker}
 use Rattle.std.proofs.lemmas.Bool.{cond_both, cond-true, cond-false, both_ways, eq-eqb, ne_eqb}
 use Rattle.lots.specs.declared.rows.LotRow.{LotRow}
@@ -63,16 +63,16 @@ record From (zs : List LotRow) (d : Draw) : Type 0 where
 
 record Fits (lt : LotRow → LotRow → Bool) (u : ℕ) (zs : List LotRow) (ds : List Draw) : Type 0 where
   exactly : sum_of (λ d. d.units) ds ≡ u
-  each : All (From zs) ds
+  each : AllByRecursion (From zs) ds
   order : InOrder lt ds
-  emptied : All (λ d. (a : LotRow) → Member zs a → lt a d.lot ≡ true → Member ds (record { lot = a; units = a.units })) ds
+  emptied : AllByRecursion (λ d. (a : LotRow) → Member zs a → lt a d.lot ≡ true → Member ds (record { lot = a; units = a.units })) ds
 
 module _ (lt : LotRow → LotRow → Bool) (irr : (a : LotRow) → lt a a ≡ false) (trans : (a b c : LotRow) → lt a b ≡ true → lt b c ≡ true → lt a c ≡ true) where
   never : (a b : LotRow) → lt a b ≡ true → a ≡ b → ⊥
   never a b l e = both_ways (lt a a) (irr a) (subst (λ (z : LotRow). lt a z ≡ true) (sym e) l)
 
   -- a lot drawn first is the first of the lots
-  first_lot : (z : LotRow) (zs : List LotRow) (d : Draw) (ds : List Draw) → Ordered lt (z ∷ zs) → All (λ e. lt d.lot e.lot ≡ true) ds → From (z ∷ zs) d
+  first_lot : (z : LotRow) (zs : List LotRow) (d : Draw) (ds : List Draw) → Ordered lt (z ∷ zs) → AllByRecursion (λ e. lt d.lot e.lot ≡ true) ds → From (z ∷ zs) d
       → ((a : LotRow) → Member (z ∷ zs) a → lt a d.lot ≡ true → Member (d ∷ ds) (record { lot = a; units = a.units })) → z ≡ d.lot
   first_lot z zs d ds o later from emptied =
       ⊎_elim
@@ -108,7 +108,7 @@ module _ (lt : LotRow → LotRow → Bool) (irr : (a : LotRow) → lt a a ≡ fa
       let from = f.each.0 in
       let later = f.order.0 in
       let lot = first_lot z zs d (e ∷ es) o later from f.emptied.0 in
-      let after = subst (λ (r : LotRow). All (λ x. lt r x.lot ≡ true) (e ∷ es)) (sym lot) later in
+      let after = subst (λ (r : LotRow). AllByRecursion (λ x. lt r x.lot ≡ true) (e ∷ es)) (sym lot) later in
       let whole : d ≡ record { lot = z; units = z.units } =
       ⊎_elim (λ (p : d ≡ record { lot = z; units = z.units }). p)
       (λ (p : Member (e ∷ es) (record { lot = z; units = z.units })). absurd (both_ways (lt z z) (irr z) (all_member (λ x. lt z x.lot ≡ true) (e ∷ es) (record { lot = z; units = z.units }) after p)))
@@ -116,7 +116,7 @@ module _ (lt : LotRow → LotRow → Bool) (irr : (a : LotRow) → lt a a ≡ fa
       let n : d.units ≡ z.units = ap (λ (x : Draw). x.units) whole in
       let all = f.exactly in
       let some = from.some in
-      let narrowed : All (From zs) (e ∷ es) = all_from_member (From zs) (e ∷ es) (λ x m.
+      let narrowed : AllByRecursion (From zs) (e ∷ es) = all_from_member (From zs) (e ∷ es) (λ x m.
       let from_x = all_member (From (z ∷ zs)) (e ∷ es) x f.each.1 m in
       record {
         there = ⊎_elim (λ (p : z ≡ x.lot). absurd (never z x.lot (all_member (λ y. lt z y.lot ≡ true) (e ∷ es) x after m) p)) (λ (p : Member zs x.lot). p) from_x.there;
@@ -156,7 +156,7 @@ one_answer o keeps M u old new_one new_two one two ri D E =
     (same, D.nothing_else ∙ ap (λ (ds : List Draw). lots_left (units_drawn ds) old) same ∙ sym E.nothing_else)
 
 -- what satisfies the relation is the closed form
-pub drawn_is_closed_form : (o : Order) → Keeps o → (M : LotRow → Bool) (u : ℕ) (old new : List LotRow) (ds : List Draw) → SerialsRise old → All (λ r. 1 ≤ r.units) old → u ≤ units_matching M old → Drawn M (o.before u) u old new ds
+pub drawn_is_closed_form : (o : Order) → Keeps o → (M : LotRow → Bool) (u : ℕ) (old new : List LotRow) (ds : List Draw) → SerialsRise old → AllByRecursion (λ r. 1 ≤ r.units) old → u ≤ units_matching M old → Drawn M (o.before u) u old new ds
     → (ds ≡ draws_in_order (o.before u) (gives M (o.before u) u old) old) × (new ≡ lots_left (gives M (o.before u) u old) old)
 drawn_is_closed_form o keeps M u old new ds ri some enough D =
     one_answer o keeps M u old new (lots_left (gives M (o.before u) u old) old) ds (draws_in_order (o.before u) (gives M (o.before u) u old) old) ri D

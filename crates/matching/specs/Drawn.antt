@@ -1,6 +1,6 @@
 -- What a reduction draws, as a relation: it says nothing of how the draws are found.
 use Rattle.std.specs.Prelude.{◌≡◌, ℕ, ◌<◌, ◌≤◌, Bool, true, false, cond, ◌⊎◌, List, [], ◌∷◌, ◌==◌}
-use Rattle.std.specs.List.{AllByRecursion as All}
+use Rattle.std.specs.List.{AllByRecursion}
 use Rattle.lots.specs.declared.rows.LotRow.{LotRow}
 use Rattle.lots.specs.Orders.{Order, Keeps}
 use Rattle.matching.specs.declared.wanted.Draw.{Draw}
@@ -16,7 +16,7 @@ Member (y ∷ ys) x = (y ≡ x) ⊎ Member ys x
 -- each is related to all that come later
 abbrev pub AllPairs : {X : Type 0} → (X → X → Type 0) → List X → Type 0
 AllPairs R [] = Unit {0}
-AllPairs R (x ∷ xs) = All (R x) xs × AllPairs R xs
+AllPairs R (x ∷ xs) = AllByRecursion (R x) xs × AllPairs R xs
 
 -- lots stand in the order of their serials, no two of which are equal
 abbrev pub SerialsRise : List LotRow → Type 0
@@ -35,7 +35,7 @@ InOrder lt ds = AllPairs (λ d e. lt d.lot e.lot ≡ true) ds
 
 -- each matching lot that comes before a drawn one is emptied: a draw of all its units is among the draws
 abbrev pub EmptiedBefore : (LotRow → Bool) → (LotRow → LotRow → Bool) → List LotRow → List Draw → Type 0
-EmptiedBefore M lt lots ds = All (λ d. (a : LotRow) → Member lots a → M a ≡ true → lt a d.lot ≡ true → Member ds (record { lot = a; units = a.units })) ds
+EmptiedBefore M lt lots ds = AllByRecursion (λ d. (a : LotRow) → Member lots a → M a ≡ true → lt a d.lot ≡ true → Member ds (record { lot = a; units = a.units })) ds
 
 -- the units that draws take from a lot
 abbrev pub units_drawn : List Draw → LotRow → ℕ
@@ -45,7 +45,7 @@ units_drawn ds r = sum_of (λ d. cond (d.lot.serial == r.serial) d.units 0) ds
 -- and from a lot only if each matching lot that comes before it is emptied; new is old less what was drawn, and nothing else changed.
 pub record Drawn (M : LotRow → Bool) (lt : LotRow → LotRow → Bool) (u : ℕ) (old new : List LotRow) (ds : List Draw) : Type 0 where
   pub exactly : sum_of (λ d. d.units) ds ≡ u
-  pub from_matches : All (FromMatch M old) ds
+  pub from_matches : AllByRecursion (FromMatch M old) ds
   pub in_order : InOrder lt ds
   pub emptied_before : EmptiedBefore M lt old ds
   pub nothing_else : new ≡ lots_left (units_drawn ds) old

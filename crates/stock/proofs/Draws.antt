@@ -1,6 +1,6 @@
 -- One draw after another gives what the closed form says.
 use Rattle.std.proofs.Common.{◌≡◌, ℕ, suc, ◌+◌, ◌-◌, ◌<◌, ◌≤◌, Bool, cond, leb, List, [], ◌∷◌, ◌++◌, length, get_or, take, drop, set, sym, refl, ap, ◌∙◌, subst, ⊎_elim, append_assoc, arith}
-use Rattle.std.specs.List.{remove, AllByRecursion as All}
+use Rattle.std.specs.List.{remove, AllByRecursion}
 use Rattle.std.proofs.lemmas.List.{append-nil, length_push}
 use Rattle.std.proofs.ByRecursion.{All-get_or, All-from_get_or, All-set}
 use Rattle.std.proofs.lemmas.Bool.{cases_lt, cond-true, cond-false, le-leb, lt-leb}
@@ -76,7 +76,7 @@ module _ (o : Order) (keeps : Keeps o) (M : LotRow → Bool) (u : ℕ) (old now 
       let rest = set now i (with_fewer x left) in
       let none : left - left ≡ 0 = omega arith in
       let step : draws M lt left now ≡ d ∷ [] = ap (draws M lt left) split ∙ draws_part M lt (take i now) x (drop (suc i) now) leads left some l in
-      let others = all_without (λ r. 1 ≤ r.units) (take i now) x (drop (suc i) now) (subst (λ (rs : List LotRow). All (λ r. 1 ≤ r.units) rs) split (some_units now kept.ranges)) in
+      let others = all_without (λ r. 1 ≤ r.units) (take i now) x (drop (suc i) now) (subst (λ (rs : List LotRow). AllByRecursion (λ r. 1 ≤ r.units) rs) split (some_units now kept.ranges)) in
       let over : left_over M lt left now ≡ rest = ap (left_over M lt left) split ∙ left_in_part M lt (take i now) x (drop (suc i) now) leads left l others ∙ sym (set_at now i (with_fewer x left) e.within) in
       let AllRest = All-set (λ r. 1 ≤ r.units) now i (with_fewer x left) (omega arith) (some_units now kept.ranges) in
       record {
@@ -117,7 +117,7 @@ taken_next i n t d after is =
     (λ _. refl) (λ _. refl)
 
 -- nothing is left to ask
-pub finished : (M : LotRow → Bool) (lt : LotRow → LotRow → Bool) (u : ℕ) (old now : List LotRow) (ds : List Draw) (left : ℕ) → All (λ r. 1 ≤ r.units) now → UnderWay M lt u old now ds left → left ≡ 0
+pub finished : (M : LotRow → Bool) (lt : LotRow → LotRow → Bool) (u : ℕ) (old now : List LotRow) (ds : List Draw) (left : ℕ) → AllByRecursion (λ r. 1 ≤ r.units) now → UnderWay M lt u old now ds left → left ≡ 0
     → (ds ≡ draws M lt u old) × (now ≡ left_over M lt u old)
 finished M lt u old now ds left some w none = (
   sym (ap (λ (es : List Draw). ds ++ es) (ap (λ (n : ℕ). draws M lt n now) none ∙ draws_zero M lt now) ∙ append-nil ds) ∙ w.drawn,

@@ -1,6 +1,6 @@
 -- What always holds of the open lots, as a test and in words, and what keeps it so.
 use Rattle.std.proofs.Common.{◌≡◌, ℕ, suc, ◌+◌, ◌<◌, ◌≤◌, Bool, true, false, not, ◌&&◌, eqb, ltb, leb, List, [], ◌∷◌, ◌++◌, length, get_or, take, drop, set, Some, None, refl, ap, ◌∙◌, subst, ⊎_elim, arith}
-use Rattle.std.specs.List.{remove, AllByRecursion as All, list_all}
+use Rattle.std.specs.List.{remove, AllByRecursion, list_all}
 use Rattle.std.proofs.ByRecursion.{All-weaker, All-push}
 use Rattle.std.proofs.lemmas.Bool.{and_parts, and_from, not-true, not_from_false, leb-true, le-leb, ltb-true, lt-ltb, eqb-true, eq-eqb, both_ways, cases_Bool, cond-true, cond-false, leb-false}
 use Rattle.std.proofs.lemmas.List.{length_push}
@@ -41,11 +41,11 @@ keys_differ_to : (a b : Key) → (a ≡ b → ⊥) → not (same_key a b) ≡ tr
 keys_differ_to a b ne = ⊎_elim (λ (t : same_key a b ≡ true). absurd (ne (key_same a b t))) (λ (f : same_key a b ≡ false). not_from_false (same_key a b) f) (cases_Bool (same_key a b))
 
 -- tests of all, and of all pairs
-pass_to : {X : Type 0} (p : X → Bool) (P : X → Type 0) → ((x : X) → p x ≡ true → P x) → (xs : List X) → list_all p xs ≡ true → All P xs
+pass_to : {X : Type 0} (p : X → Bool) (P : X → Type 0) → ((x : X) → p x ≡ true → P x) → (xs : List X) → list_all p xs ≡ true → AllByRecursion P xs
 pass_to p P f [] t = tt
 pass_to p P f (x ∷ xs) t = let a = and_parts (p x) (list_all p xs) t in (f x a.0, pass_to p P f xs a.1)
 
-pass_from : {X : Type 0} (p : X → Bool) (P : X → Type 0) → ((x : X) → P x → p x ≡ true) → (xs : List X) → All P xs → list_all p xs ≡ true
+pass_from : {X : Type 0} (p : X → Bool) (P : X → Type 0) → ((x : X) → P x → p x ≡ true) → (xs : List X) → AllByRecursion P xs → list_all p xs ≡ true
 pass_from p P f [] all = refl
 pass_from p P f (x ∷ xs) all = and_from (p x) (list_all p xs) (f x all.0) (pass_from p P f xs all.1)
 
@@ -90,7 +90,7 @@ module _ (lots : List LotRow) (next : ℕ) where
       (pairs_from (λ r s. not (same_key r.key s.key)) (λ r s. r.key ≡ s.key → ⊥) (λ r s ne. keys_differ_to r.key s.key ne) lots w.keys_differ))))
 
 -- each lot has some units
-pub some_units : (lots : List LotRow) → All (λ r. in_range r ≡ true) lots → All (λ r. 1 ≤ r.units) lots
+pub some_units : (lots : List LotRow) → AllByRecursion (λ r. in_range r ≡ true) lots → AllByRecursion (λ r. 1 ≤ r.units) lots
 some_units lots all = All-weaker (λ r. in_range r ≡ true) (λ r. 1 ≤ r.units) (λ r e. leb-true 1 r.units (and_parts (leb 1 r.units) (leb r.units most && leb r.key.cost.number most) e).0) lots all
 
 -- a lot is gone
@@ -116,7 +116,7 @@ kept_replaced ys x n zs next good w = record {
 }
 
 -- a lot is opened
-pub kept_pushed : (lots : List LotRow) (x : LotRow) → length lots < 256 → in_range x ≡ true → All (λ r. r.key ≡ x.key → ⊥) lots → WellKept (record { lots = lots; next = x.serial }) → WellKept (record { lots = lots ++ x ∷ []; next = x.serial + 1 })
+pub kept_pushed : (lots : List LotRow) (x : LotRow) → length lots < 256 → in_range x ≡ true → AllByRecursion (λ r. r.key ≡ x.key → ⊥) lots → WellKept (record { lots = lots; next = x.serial }) → WellKept (record { lots = lots ++ x ∷ []; next = x.serial + 1 })
 kept_pushed lots x room good others w =
     let low = w.from_one in
     record {

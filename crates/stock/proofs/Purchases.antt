@@ -1,6 +1,6 @@
 -- A purchase by the place of its lot is the purchase that the table defines.
 use Rattle.std.proofs.Common.{◌≡◌, ℕ, suc, ◌+◌, ◌<◌, ◌≤◌, Bool, true, false, cond, ◌||◌, ltb, leb, List, [], ◌∷◌, ◌++◌, length, get_or, take, drop, set, Some, None, Ok, Err, Option, Result, sym, refl, ap, ◌∙◌, subst, ⊎_elim, arith}
-use Rattle.std.specs.List.{AllByRecursion as All}
+use Rattle.std.specs.List.{AllByRecursion}
 use Rattle.std.proofs.ByRecursion.{All-from_get_or, All-weaker}
 use Rattle.std.proofs.lemmas.Bool.{both_ways, cond-true, cond-false, or_from, or_left, or_right, le-ltb, lt-leb, le-leb, cases_Bool, cases_lt, cond_both}
 use Rattle.refusal.specs.declared.Refusal.{Refusal}
@@ -26,22 +26,22 @@ Other k r = of_key k r ≡ false
 other_key : (k : Key) (r : LotRow) → (r.key ≡ k → ⊥) → Other k r
 other_key k r ne = ⊎_elim (λ (t : of_key k r ≡ true). absurd (ne (key_same r.key k t))) (λ (f : of_key k r ≡ false). f) (cases_Bool (of_key k r))
 
-pub keys_others : (k : Key) (lots : List LotRow) → OpenAt k lots None → All (λ r. r.key ≡ k → ⊥) lots
+pub keys_others : (k : Key) (lots : List LotRow) → OpenAt k lots None → AllByRecursion (λ r. r.key ≡ k → ⊥) lots
 keys_others k lots none =
     All-weaker (Other k) (λ r. r.key ≡ k → ⊥) (λ r f e. both_ways (of_key k r) f (subst (λ (j : Key). same_key j k ≡ true) (sym e) (key_itself k))) lots (All-from_get_or (Other k) lots no_lot none)
 
-units_none : (k : Key) (lots : List LotRow) → All (Other k) lots → units_of_key k lots ≡ 0
+units_none : (k : Key) (lots : List LotRow) → AllByRecursion (Other k) lots → units_of_key k lots ≡ 0
 units_none k lots all = sum_of_zero_all (units_if (of_key k)) lots (All-weaker (Other k) (λ r. units_if (of_key k) r ≡ 0) (λ r f. cond-false (of_key k r) r.units 0 f) lots all)
 
-not_open : (k : Key) (lots : List LotRow) → All (Other k) lots → is_open k lots ≡ false
+not_open : (k : Key) (lots : List LotRow) → AllByRecursion (Other k) lots → is_open k lots ≡ false
 not_open k [] all = refl
 not_open k (r ∷ rs) all = or_from (of_key k r) (is_open k rs) all.0 (not_open k rs all.1)
 
-add_new : (k : Key) (n next : ℕ) (lots : List LotRow) → All (Other k) lots → add_units k n next lots ≡ lots ++ (record { key = k; units = n; serial = next } ∷ [])
+add_new : (k : Key) (n next : ℕ) (lots : List LotRow) → AllByRecursion (Other k) lots → add_units k n next lots ≡ lots ++ (record { key = k; units = n; serial = next } ∷ [])
 add_new k n next [] all = refl
 add_new k n next (r ∷ rs) all = cond-false (of_key k r) (with_more r n ∷ rs) (r ∷ add_units k n next rs) all.0 ∙ ap (λ (xs : List LotRow). r ∷ xs) (add_new k n next rs all.1)
 
-serial_new : (k : Key) (next : ℕ) (lots : List LotRow) → All (Other k) lots → serial_for k next lots ≡ next
+serial_new : (k : Key) (next : ℕ) (lots : List LotRow) → AllByRecursion (Other k) lots → serial_for k next lots ≡ next
 serial_new k next [] all = refl
 serial_new k next (r ∷ rs) all = cond-false (of_key k r) r.serial (serial_for k next rs) all.0 ∙ serial_new k next rs all.1
 
@@ -51,15 +51,15 @@ module _ (k : Key) (x : LotRow) (own : of_key k x ≡ true) (zs : List LotRow) w
   open_there [] = or_left (of_key k x) (is_open k zs) own
   open_there (y ∷ ys) = or_right (of_key k y) (is_open k (ys ++ x ∷ zs)) (open_there ys)
 
-  add_there : (n next : ℕ) (ys : List LotRow) → All (Other k) (ys ++ zs) → add_units k n next (ys ++ x ∷ zs) ≡ ys ++ with_more x n ∷ zs
+  add_there : (n next : ℕ) (ys : List LotRow) → AllByRecursion (Other k) (ys ++ zs) → add_units k n next (ys ++ x ∷ zs) ≡ ys ++ with_more x n ∷ zs
   add_there n next [] all = cond-true (of_key k x) (with_more x n ∷ zs) (x ∷ add_units k n next zs) own
   add_there n next (y ∷ ys) all = cond-false (of_key k y) (with_more y n ∷ (ys ++ x ∷ zs)) (y ∷ add_units k n next (ys ++ x ∷ zs)) all.0 ∙ ap (λ (xs : List LotRow). y ∷ xs) (add_there n next ys all.1)
 
-  serial_there : (next : ℕ) (ys : List LotRow) → All (Other k) (ys ++ zs) → serial_for k next (ys ++ x ∷ zs) ≡ x.serial
+  serial_there : (next : ℕ) (ys : List LotRow) → AllByRecursion (Other k) (ys ++ zs) → serial_for k next (ys ++ x ∷ zs) ≡ x.serial
   serial_there next [] all = cond-true (of_key k x) x.serial (serial_for k next zs) own
   serial_there next (y ∷ ys) all = cond-false (of_key k y) y.serial (serial_for k next (ys ++ x ∷ zs)) all.0 ∙ serial_there next ys all.1
 
-  units_there : (ys : List LotRow) → All (Other k) (ys ++ zs) → units_of_key k (ys ++ x ∷ zs) ≡ x.units
+  units_there : (ys : List LotRow) → AllByRecursion (Other k) (ys ++ zs) → units_of_key k (ys ++ x ∷ zs) ≡ x.units
   units_there ys all =
       let s = sum_of_split (units_if (of_key k)) ys x zs in
       let here : units_if (of_key k) x ≡ x.units = cond-true (of_key k x) x.units 0 own in
@@ -95,7 +95,7 @@ module _ (k : Key) (n : ℕ) (t : Table) where
       ∙ sym E
 
   module _ (small : n ≤ most) (none : OpenAt k t.lots None) where
-    others : All (Other k) t.lots
+    others : AllByRecursion (Other k) t.lots
     others = All-from_get_or (Other k) t.lots no_lot none
 
     abbrev after : List LotRow

@@ -1,6 +1,6 @@
 -- What always holds of the open lots and the next serial.
 use Rattle.std.specs.Prelude.{◌≡◌, ℕ, ◌<◌, ◌≤◌, Bool, true, not, ◌&&◌, ltb, List, [], ◌∷◌, length, ◌≢◌, nat_le, nat_lt}
-use Rattle.std.specs.List.{AllByRecursion as All, list_all}
+use Rattle.std.specs.List.{AllByRecursion, list_all}
 use Rattle.lots.specs.declared.rows.LotRow.{LotRow}
 use Rattle.lots.specs.Rows.{in_range, same_key}
 use Rattle.matching.specs.Drawn.{AllPairs, SerialsRise}
@@ -12,9 +12,9 @@ KeysDiffer lots = AllPairs (λ r s. r.key ≢ s.key) lots
 
 pub record WellKept (t : Table) : Type 0 where
   pub at_most_256 : length t.lots ≤ 256
-  pub ranges : All (λ r. in_range r ≡ true) t.lots
+  pub ranges : AllByRecursion (λ r. in_range r ≡ true) t.lots
   pub from_one : 1 ≤ t.next
-  pub serials_given : All (λ r. (1 ≤ r.serial) × (r.serial < t.next)) t.lots
+  pub serials_given : AllByRecursion (λ r. (1 ≤ r.serial) × (r.serial < t.next)) t.lots
   pub serials_rise : SerialsRise t.lots
   pub keys_differ : KeysDiffer t.lots
 

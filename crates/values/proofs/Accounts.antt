@@ -1,6 +1,6 @@
 -- An account's name is spelled as it is tested.
 use Rattle.std.proofs.Common.{◌≡◌, ℕ, ◌≤◌, true, false, not, eqb, leb, ◌⊎◌, List, [], ◌∷◌, ◌++◌, length, get_or, codes, Decides, sym, refl, ap, ◌∙◌, subst, ⊎_elim, arith}
-use Rattle.std.specs.List.{AllByRecursion as All, list_all}
+use Rattle.std.specs.List.{AllByRecursion, list_all}
 use Rattle.std.proofs.lemmas.Slice.Eq.{bytes_eq-Decides}
 use Rattle.std.proofs.lemmas.Bool.{and_parts, and_from, le-leb, leb-true, cases_Bool, eqb-true, ne_eqb, not-true, false≢true}
 use Rattle.std.proofs.lemmas.Bool.Decides.{nat_tests, Decides-and, Decides-or, Decides-like, Decides-eqb}
@@ -36,7 +36,7 @@ part_decides t =
     (Decides-and _ _ (first_of_part t)
     (Decides-by_and (in_class AccountPart) (λ b. ((Capital b ⊎ Lowercase b) ⊎ Digit b) ⊎ (b ≡ 45)) (list_all (in_class AccountPart)) part_byte refl (λ _ _. refl) t))
 
-parts_decide : (ps : List (List ℕ)) → Decides (list_all is_part ps) (All Part ps)
+parts_decide : (ps : List (List ℕ)) → Decides (list_all is_part ps) (AllByRecursion Part ps)
 parts_decide ps = Decides-by_and is_part Part (list_all is_part) part_decides refl (λ _ _. refl) ps
 
 -- joining what was cut gives the text back
@@ -77,7 +77,7 @@ split_joined (b ∷ bs) =
 -- cutting what was joined gives the parts back, where none has a colon
 
 abbrev NoColon : List ℕ → Type 0
-NoColon t = All (λ b. eqb b 58 ≡ false) t
+NoColon t = AllByRecursion (λ b. eqb b 58 ≡ false) t
 
 split_alone : (p : List ℕ) → NoColon p → split_at 58 p ≡ p ∷ []
 split_alone [] h = refl
@@ -87,7 +87,7 @@ split_front : (p rest : List ℕ) → NoColon p → split_at 58 (p ++ 58 ∷ res
 split_front [] rest h = refl
 split_front (b ∷ bs) rest h = rw (h.0, split_front bs rest h.1)
 
-joined_split : (p : List ℕ) (ps : List (List ℕ)) → NoColon p → All NoColon ps → split_at 58 (joined_by_colons p ps) ≡ p ∷ ps
+joined_split : (p : List ℕ) (ps : List (List ℕ)) → NoColon p → AllByRecursion NoColon ps → split_at 58 (joined_by_colons p ps) ≡ p ∷ ps
 joined_split p [] h hs = split_alone p h
 joined_split p (q ∷ qs) h hs = split_front p (joined_by_colons q qs) h ∙ ap (λ (x : List (List ℕ)). p ∷ x) (joined_split q qs hs.0 hs.1)
 
@@ -96,11 +96,11 @@ byte_no_colon b h =
     ne_eqb b 58
     (λ e. ⊎_elim (λ l. ⊎_elim (λ a. ⊎_elim (λ u. omega arith) (λ s. omega arith) a) (λ d. omega arith) l) (λ y. omega arith) h)
 
-part_no_colon : (bs : List ℕ) → All (λ b. ((Capital b ⊎ Lowercase b) ⊎ Digit b) ⊎ (b ≡ 45)) bs → NoColon bs
+part_no_colon : (bs : List ℕ) → AllByRecursion (λ b. ((Capital b ⊎ Lowercase b) ⊎ Digit b) ⊎ (b ≡ 45)) bs → NoColon bs
 part_no_colon [] h = tt
 part_no_colon (b ∷ bs) h = (byte_no_colon b h.0, part_no_colon bs h.1)
 
-parts_no_colon : (ps : List (List ℕ)) → All Part ps → All NoColon ps
+parts_no_colon : (ps : List (List ℕ)) → AllByRecursion Part ps → AllByRecursion NoColon ps
 parts_no_colon [] h = tt
 parts_no_colon (p ∷ ps) h = (part_no_colon p h.0.letters_digits_hyphens, parts_no_colon ps h.1)
 

@@ -1,6 +1,6 @@
 -- How the names of commodities and accounts are spelled. Assumes nothing.
 use Rattle.std.specs.Prelude.{◌≡◌, ℕ, ◌≤◌, ◌⊎◌, List, [], ◌∷◌, ◌++◌, length, codes}
-use Rattle.std.specs.List.{AllByRecursion as All}
+use Rattle.std.specs.List.{AllByRecursion}
 
 -- classes of bytes: A to Z, a to z, 0 to 9
 abbrev pub Capital : ℕ → Type 0
@@ -22,7 +22,7 @@ pub record IsCommodityName (t : List ℕ) : Type 0 where
   pub two_or_more : 2 ≤ length t
   pub eight_at_most : length t ≤ 8
   pub capital_first : Starts Capital t
-  pub capitals_or_digits : All (λ b. Capital b ⊎ Digit b) t
+  pub capitals_or_digits : AllByRecursion (λ b. Capital b ⊎ Digit b) t
 
 -- an account's name starts with one of five roots
 abbrev pub Root : List ℕ → Type 0
@@ -31,7 +31,7 @@ Root t = (t ≡ codes "Assets") ⊎ ((t ≡ codes "Liabilities") ⊎ ((t ≡ cod
 -- any other part starts with a capital or a digit and goes on with letters, digits or hyphens
 pub record Part (t : List ℕ) : Type 0 where
   pub capital_or_digit_first : Starts (λ b. Capital b ⊎ Digit b) t
-  pub letters_digits_hyphens : All (λ b. ((Capital b ⊎ Lowercase b) ⊎ Digit b) ⊎ (b ≡ 45)) t
+  pub letters_digits_hyphens : AllByRecursion (λ b. ((Capital b ⊎ Lowercase b) ⊎ Digit b) ⊎ (b ≡ 45)) t
 
 -- the parts joined by colons
 abbrev pub joined_by_colons : List ℕ → List (List ℕ) → List ℕ
@@ -46,7 +46,7 @@ pub record IsAccountName (t : List ℕ) : Type 0 where
   pub a_root : Root root
   pub one_or_more : 1 ≤ length parts
   pub five_at_most : length parts ≤ 5
-  pub each_a_part : All Part parts
+  pub each_a_part : AllByRecursion Part parts
   pub short : length t ≤ 48
 
 -- an account lies under another if it is that one or starts with its name and a colon

@@ -1,5 +1,5 @@
 use Rattle.std.proofs.Common.{◌≡◌, ◌+◌, true, List, [], ◌∷◌, ◌++◌, sym, ap, ◌∙◌, subst}
-use Rattle.std.specs.List.{AllByRecursion as All}
+use Rattle.std.specs.List.{AllByRecursion}
 use Rattle.bounded.specs.Items.{items}
 use Rattle.bounded.proofs.Capacity.{items_within, pushed_ok}
 use Rattle.lots.specs.declared.rows.Key.{Key}
@@ -18,7 +18,7 @@ invariant_of-self c =
     let pushed = pushed_ok 256 xs (items c.push.new.self) x c.in-Ok.field-0 c.in-Ok.ensures in
     let same : record { key = c.args.bought.now.key; units = c.args.bought.now.units; serial = t.next } ≡ x = λ i. record { key = (sym c.row.ensures i).key; units = (sym c.row.ensures i).units; serial = t.next } in
     let good = subst (λ (r : LotRow). in_range r ≡ true) same (lot_in_range c.args.bought.now) in
-    let others = subst (λ (k : Key). All (λ r. r.key ≡ k → ⊥) xs) (sym (ap (λ (r : LotRow). r.key) c.row.ensures)) (keys_others c.args.bought.now.key xs c.requires) in
+    let others = subst (λ (k : Key). AllByRecursion (λ r. r.key ≡ k → ⊥) xs) (sym (ap (λ (r : LotRow). r.key) c.row.ensures)) (keys_others c.args.bought.now.key xs c.requires) in
     record {
       kept = ap (λ (rs : List LotRow). well_kept rs (t.next + 1)) pushed.0
           ∙ as_test (xs ++ x ∷ []) (t.next + 1) (kept_pushed xs x pushed.1 good others (in_words xs t.next (items_within t.rows) t.kept));
