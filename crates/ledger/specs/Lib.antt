@@ -1,3 +1,4 @@
 pub mod Ranks
 pub mod View
 pub mod Answers
+pub mod CallTables

@@ -7,7 +7,7 @@ ghost use Rattle.books.specs.Calls.{asserting, closing};
 ghost use Rattle.books.specs.Changes.{with_names, with_account_closed};
 ghost use Rattle.books.specs.Holdings.{holdings_under};
 ghost use Rattle.books.specs.Lookups.{any_under, open_account, number_or_0};
-ghost use Rattle.books.specs.Refusals.{asserting-tests, closing-tests};
+ghost use Rattle.ledger.specs.CallTables.{asserting_tests, closing_tests};
 ghost use Rattle.books.specs.Steps.{step};
 ghost use Rattle.books.specs.declared.outcome.Outcome.TheVariants.{Done};
 ghost use Rattle.ledger.specs.Answers.{outcome_of};
@@ -59,7 +59,7 @@ impl<P: Policy> Ledger<P> {
         amount: i32,
         commodity: &[u8],
     ) -> Result<(), Refusal>
-        ensures { result ≡ unless (first_met (asserting-tests (view self.now) date account.now amount commodity.now)) tt }
+        ensures { result ≡ unless (first_met (asserting_tests (view self.now) date account.now amount commodity.now)) tt }
     {
         self.check_no_draft()?;
         check_date(date)?;
@@ -80,7 +80,7 @@ impl<P: Policy> Ledger<P> {
     }
 
     // Holds an amount to what the accounts under the named one hold together.
-    pub fn assert_balance(
+    pub(crate) fn assert_balance(
         &mut self,
         source: u32,
         date: u32,
@@ -99,7 +99,7 @@ impl<P: Policy> Ledger<P> {
 
     // The number of the account, if it may be closed.
     fn check_closing(&self, date: u32, account: &[u8]) -> Result<u16, Refusal>
-        ensures { result ≡ unless (first_met (closing-tests (view self.now) date account.now)) (number_or_0 (open_account (view self.now).names account.now)) }
+        ensures { result ≡ unless (first_met (closing_tests (view self.now) date account.now)) (number_or_0 (open_account (view self.now).names account.now)) }
     {
         self.check_no_draft()?;
         check_date(date)?;
@@ -123,7 +123,7 @@ impl<P: Policy> Ledger<P> {
     }
 
     // Closes an account that is empty.
-    pub fn close(&mut self, source: u32, date: u32, account: &[u8]) -> Result<(), Fault>
+    pub(crate) fn close(&mut self, source: u32, date: u32, account: &[u8]) -> Result<(), Fault>
         ensures defined { (outcome_of (λ _. Done) result, view self.new) ≡ step (P.Policy.order self.old.policy) (view self.old) (closing source date account.now) }
         ensures policy { self.new.policy ≡ self.old.policy }
     {

@@ -3,7 +3,7 @@ ghost use Rattle.std.specs.Prelude.{◌≡◌, ◌+◌, Some};
 ghost use Rattle.booking.specs.Balances.{first_met};
 ghost use Rattle.booking.specs.Stages.{unless};
 ghost use Rattle.books.specs.Calls.{beginning, tearing};
-ghost use Rattle.books.specs.Refusals.{beginning-tests};
+ghost use Rattle.ledger.specs.CallTables.{beginning_tests};
 ghost use Rattle.books.specs.Changes.{new_draft, with_draft};
 ghost use Rattle.books.specs.Steps.{step};
 ghost use Rattle.books.specs.declared.outcome.Outcome.TheVariants.{Begun, Done};
@@ -23,7 +23,7 @@ use values::flag::Flag;
 
 impl<P: Policy> Ledger<P> {
     fn check_beginning(&self, date: u32) -> Result<(), Refusal>
-        ensures { result ≡ unless (first_met (beginning-tests (view self.now) date)) tt }
+        ensures { result ≡ unless (first_met (beginning_tests (view self.now) date)) tt }
     {
         self.check_no_draft()?;
         check_date(date)?;
@@ -48,7 +48,7 @@ impl<P: Policy> Ledger<P> {
     }
 
     // Starts an empty draft and hands out its slip.
-    pub fn begin(&mut self, source: u32, date: u32, flag: Flag) -> Result<Slip, Fault>
+    pub(crate) fn begin(&mut self, source: u32, date: u32, flag: Flag) -> Result<Slip, Fault>
         ensures defined { (outcome_of (λ slip. Begun slip.number) result, view self.new) ≡ step (P.Policy.order self.old.policy) (view self.old) (beginning source date flag) }
         ensures policy { self.new.policy ≡ self.old.policy }
     {
@@ -59,7 +59,7 @@ impl<P: Policy> Ledger<P> {
     }
 
     // Throws the draft of a slip away; refused, the slip comes back.
-    pub fn tear(&mut self, slip: Slip) -> Result<(), (Slip, Fault)>
+    pub(crate) fn tear(&mut self, slip: Slip) -> Result<(), (Slip, Fault)>
         ensures defined { (outcome_with_slip (λ _. Done) result, view self.new) ≡ step (P.Policy.order self.old.policy) (view self.old) (tearing slip.number) }
         ensures slip { GivesBack slip result }
         ensures policy { self.new.policy ≡ self.old.policy }

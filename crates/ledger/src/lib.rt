@@ -1,4 +1,7 @@
 // The ledger: its calls and its questions, for any booking policy. What each answers and leaves is defined in crate `books`.
+// The calls stay within the crate until the law over whole runs stands on a public call.
+#![tactic(auto)]
+
 ghost use Rattle.std.specs.Prelude.{◌+◌, ◌≤◌};
 ghost use Rattle.record.specs.Layout.{most_rows};
 ghost use Rattle.stock.specs.View.{table_of};

@@ -12,7 +12,7 @@ use stock::table::LotTable;
 
 impl<P: Policy> Ledger<P> {
     // Nothing is named, booked or drafted yet.
-    pub fn new(policy: P) -> Ledger<P>
+    pub(crate) fn new(policy: P) -> Ledger<P>
         ensures empty { view result ≡ empty_ledger }
         ensures policy { result.policy ≡ policy }
     {

@@ -11,7 +11,7 @@ ghost use Rattle.booking.specs.Stages.{unless};
 ghost use Rattle.chart.specs.View.{account_added};
 ghost use Rattle.books.specs.Changes.{with_names, with_commodity};
 ghost use Rattle.books.specs.Calls.{declaring, opening};
-ghost use Rattle.books.specs.Refusals.{given-and, declaring-tests, opening-tests};
+ghost use Rattle.ledger.specs.CallTables.{given_and, declaring_tests, opening_tests};
 ghost use Rattle.books.specs.Steps.{step};
 ghost use Rattle.books.specs.declared.outcome.Outcome.TheVariants.{Declared, Opened};
 ghost use Rattle.ledger.specs.View.{view};
@@ -27,7 +27,7 @@ use refusal::{Fault, Refusal};
 
 // A name that need not be given.
 fn check_own_name(own: Option<&[u8]>) -> Result<(), Refusal>
-    ensures { Checks BadCommodityName (given-and bad_commodity_name (option_map (λ c. c.now) own.entry)) result }
+    ensures { Checks BadCommodityName (given_and bad_commodity_name (option_map (λ c. c.now) own.entry)) result }
 {
     match own {
         None => Ok(()),
@@ -37,7 +37,7 @@ fn check_own_name(own: Option<&[u8]>) -> Result<(), Refusal>
 
 impl<P: Policy> Ledger<P> {
     fn check_declaring(&self, date: u32, name: &[u8]) -> Result<(), Refusal>
-        ensures checked { result ≡ unless (first_met (declaring-tests (view self.now) date name.now)) tt }
+        ensures checked { result ≡ unless (first_met (declaring_tests (view self.now) date name.now)) tt }
         ensures allowed { OnOk result ((is_commodity_name name.now ≡ true) × (commodities_full (view self.now).names ≡ false)) }
     {
         self.check_no_draft()?;
@@ -68,7 +68,7 @@ impl<P: Policy> Ledger<P> {
     }
 
     // Adds a commodity and answers its number.
-    pub fn declare(&mut self, source: u32, date: u32, name: &[u8]) -> Result<u8, Fault>
+    pub(crate) fn declare(&mut self, source: u32, date: u32, name: &[u8]) -> Result<u8, Fault>
         ensures defined { (outcome_of Declared result, view self.new) ≡ step (P.Policy.order self.old.policy) (view self.old) (declaring source date name.now) }
         ensures policy { self.new.policy ≡ self.old.policy }
     {
@@ -80,7 +80,7 @@ impl<P: Policy> Ledger<P> {
 
     // The number of the own commodity that is named, if one is.
     fn own_commodity(&self, own: Option<&[u8]>) -> Result<Option<u8>, Refusal>
-        ensures { Finds CommodityNotDeclared (given-and (not_declared (view self.now).names) (option_map (λ c. c.now) own.entry)) (option_map (λ c. number_or_0 (commodity_number (view self.now).names c.now)) own.entry) result }
+        ensures { Finds CommodityNotDeclared (given_and (not_declared (view self.now).names) (option_map (λ c. c.now) own.entry)) (option_map (λ c. number_or_0 (commodity_number (view self.now).names c.now)) own.entry) result }
     {
         let Some(name) = own else {
             return Ok(None);
@@ -97,7 +97,7 @@ impl<P: Policy> Ledger<P> {
         name: &[u8],
         own: Option<&[u8]>,
     ) -> Result<Option<u8>, Refusal>
-        ensures checked { result ≡ unless (first_met (opening-tests (view self.now) date name.now (option_map (λ c. c.now) own.entry))) (option_map (λ c. number_or_0 (commodity_number (view self.now).names c.now)) own.entry) }
+        ensures checked { result ≡ unless (first_met (opening_tests (view self.now) date name.now (option_map (λ c. c.now) own.entry))) (option_map (λ c. number_or_0 (commodity_number (view self.now).names c.now)) own.entry) }
         ensures allowed { OnOk result ((is_account_name name.now ≡ true) × (accounts_full (view self.now).names ≡ false)) }
     {
         self.check_no_draft()?;
@@ -130,7 +130,7 @@ impl<P: Policy> Ledger<P> {
     }
 
     // Adds an account, with one own commodity or none, and answers its number.
-    pub fn open(
+    pub(crate) fn open(
         &mut self,
         source: u32,
         date: u32,

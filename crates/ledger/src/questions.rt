@@ -22,7 +22,7 @@ impl<P: Policy> Ledger<P> {
     }
 
     // The plain balance and the units of the open lots.
-    pub fn holding(&self, account: u16, commodity: u8) -> Result<i64, Fault>
+    pub(crate) fn holding(&self, account: u16, commodity: u8) -> Result<i64, Fault>
         ensures { result ≡ holding_of (view self.now) account commodity }
     {
         if !self.has(account, commodity) {
@@ -31,7 +31,7 @@ impl<P: Policy> Ledger<P> {
         Ok(holding(&self.balances, &self.lots, account, commodity))
     }
 
-    pub fn plain_balance(&self, account: u16, commodity: u8) -> Result<i64, Fault>
+    pub(crate) fn plain_balance(&self, account: u16, commodity: u8) -> Result<i64, Fault>
         ensures { result ≡ plain_balance_of (view self.now) account commodity }
     {
         if !self.has(account, commodity) {
@@ -40,7 +40,7 @@ impl<P: Policy> Ledger<P> {
         Ok(self.balances.balance(account, commodity))
     }
 
-    pub fn counts(&self) -> Counts
+    pub(crate) fn counts(&self) -> Counts
         ensures { result ≡ counts_of (view self.now) }
     {
         Counts {
@@ -54,7 +54,7 @@ impl<P: Policy> Ledger<P> {
     }
 
     // The open lot that bears a serial.
-    pub fn lot(&self, serial: u32) -> Result<LotRow, Fault>
+    pub(crate) fn lot(&self, serial: u32) -> Result<LotRow, Fault>
         ensures { result ≡ lot_of (view self.now) serial }
     {
         self.lots

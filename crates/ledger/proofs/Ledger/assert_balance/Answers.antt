@@ -1,12 +1,11 @@
-use Rattle.std.proofs.Common.{◌≡◌, ℤ, Result, refl, ap, ◌∙◌, w32}
+use Rattle.std.proofs.Common.{ℤ, refl, ap, ◌∙◌, w32}
 use Rattle.std.proofs.lemmas.Int.{to_z-of_z}
-use Rattle.refusal.specs.declared.Refusal.{Refusal}
 use Rattle.booking.specs.Balances.{first_met}
 use Rattle.booking.specs.Stages.{unless}
 use Rattle.books.specs.Calls.{asserting}
-use Rattle.books.specs.Refusals.{asserting_tests}
+use Rattle.ledger.specs.CallTables.{asserting_tests}
 use Rattle.ledger.specs.View.{view}
-use Rattle.ledger.proofs.Answering.{refused, accepted}
+use Rattle.ledger.proofs.Answering.{by_table, refused, accepted}
 use Rattle.ledger.proofs.Ledger.assert_balance.Goals as goal
 
 pub returns-in-Ok : goal.returns-in-Ok
@@ -15,7 +14,7 @@ returns-in-Ok g c =
     let same = to_z-of_z w32 c.args.amount c.ranges.amount in
     record {
       defined =
-          accepted (g.P.Policy.order c.args.self.now.policy) s (asserting c.args.source c.args.date c.args.account.now c.args.amount c.args.commodity.now) c.args.source (asserting_tests s c.args.date c.args.account.now c.args.amount c.args.commodity.now) refl _ _
+          accepted (g.P.Policy.order c.args.self.now.policy) s (asserting c.args.source c.args.date c.args.account.now c.args.amount c.args.commodity.now) c.args.source (asserting_tests s c.args.date c.args.account.now c.args.amount c.args.commodity.now) (by_table (g.P.Policy.order c.args.self.now.policy) s (asserting c.args.source c.args.date c.args.account.now c.args.amount c.args.commodity.now) c.args.source (asserting_tests s c.args.date c.args.account.now c.args.amount c.args.commodity.now) refl) _ _
           (c.in-Ok.ensures ∙ ap (λ (z : ℤ). unless (first_met (asserting_tests s c.args.date c.args.account.now z c.args.commodity.now)) (tt {0})) same) _ _
           refl
           c.accept.ensures.accepted;
@@ -28,7 +27,7 @@ returns-in-Err g c =
     let same = to_z-of_z w32 c.args.amount c.ranges.amount in
     record {
       defined =
-          refused (g.P.Policy.order c.args.self.now.policy) s (asserting c.args.source c.args.date c.args.account.now c.args.amount c.args.commodity.now) c.args.source (asserting_tests s c.args.date c.args.account.now c.args.amount c.args.commodity.now) refl _ _ _
+          refused (g.P.Policy.order c.args.self.now.policy) s (asserting c.args.source c.args.date c.args.account.now c.args.amount c.args.commodity.now) c.args.source (asserting_tests s c.args.date c.args.account.now c.args.amount c.args.commodity.now) (by_table (g.P.Policy.order c.args.self.now.policy) s (asserting c.args.source c.args.date c.args.account.now c.args.amount c.args.commodity.now) c.args.source (asserting_tests s c.args.date c.args.account.now c.args.amount c.args.commodity.now) refl) _ _ _
           (c.in-Err.ensures ∙ ap (λ (z : ℤ). unless (first_met (asserting_tests s c.args.date c.args.account.now z c.args.commodity.now)) (tt {0})) same)
           c.fault_at.ensures;
       policy = refl;

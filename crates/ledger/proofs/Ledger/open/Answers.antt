@@ -7,9 +7,9 @@ use Rattle.chart.specs.View.{account_added}
 use Rattle.books.specs.Changes.{with_names}
 use Rattle.books.specs.declared.outcome.Outcome.TheVariants.{Opened}
 use Rattle.books.specs.Calls.{opening}
-use Rattle.books.specs.Refusals.{opening_tests}
+use Rattle.ledger.specs.CallTables.{opening_tests}
 use Rattle.ledger.specs.View.{view}
-use Rattle.ledger.proofs.Answering.{refused, accepted, finds}
+use Rattle.ledger.proofs.Answering.{opening_by_table, refused, accepted, finds}
 use Rattle.ledger.proofs.Ledger.open.Goals as goal
 
 -- the number of what is named
@@ -22,7 +22,7 @@ returns-in-Ok g c =
     let s = view c.args.self.now in
     record {
       defined =
-          accepted (g.P.Policy.order c.args.self.now.policy) s (opening c.args.source c.args.date c.args.name.now (option_map (λ n. n.now) c.args.own)) c.args.source (opening_tests s c.args.date c.args.name.now (option_map (λ n. n.now) c.args.own)) refl _ _ c.in-Ok.ensures.checked _ _
+          accepted (g.P.Policy.order c.args.self.now.policy) s (opening c.args.source c.args.date c.args.name.now (option_map (λ n. n.now) c.args.own)) c.args.source (opening_tests s c.args.date c.args.name.now (option_map (λ n. n.now) c.args.own)) (opening_by_table (g.P.Policy.order c.args.self.now.policy) s c.args.source c.args.date c.args.name.now (option_map (λ n. n.now) c.args.own)) _ _ c.in-Ok.ensures.checked _ _
           (ap Opened c.add_account.ensures.number)
           (c.add_account.ensures.named ∙ ap (λ (own : Option ℕ). with_names s (account_added c.args.name.now own s.names) c.args.date 0) (finds (first_met (opening_tests s c.args.date c.args.name.now (option_map (λ n. n.now) c.args.own))) _ _ c.in-Ok.ensures.checked ∙ named s.names c.args.own));
       policy = c.add_account.ensures.policy;
@@ -32,6 +32,6 @@ pub returns-in-Err : goal.returns-in-Err
 returns-in-Err g c =
     let s = view c.args.self.now in
     record {
-      defined = refused (g.P.Policy.order c.args.self.now.policy) s (opening c.args.source c.args.date c.args.name.now (option_map (λ n. n.now) c.args.own)) c.args.source (opening_tests s c.args.date c.args.name.now (option_map (λ n. n.now) c.args.own)) refl _ _ _ c.in-Err.ensures.checked c.fault_at.ensures;
+      defined = refused (g.P.Policy.order c.args.self.now.policy) s (opening c.args.source c.args.date c.args.name.now (option_map (λ n. n.now) c.args.own)) c.args.source (opening_tests s c.args.date c.args.name.now (option_map (λ n. n.now) c.args.own)) (opening_by_table (g.P.Policy.order c.args.self.now.policy) s c.args.source c.args.date c.args.name.now (option_map (λ n. n.now) c.args.own)) _ _ _ c.in-Err.ensures.checked c.fault_at.ensures;
       policy = refl;
     }
