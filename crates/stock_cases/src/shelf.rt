@@ -4,7 +4,6 @@ use lots::lot::Lot;
 use lots::policy::*;
 use lots::rows::{Cost, Key, LotRow};
 use matching::wanted::{Draw, Wanted};
-use std::process::Abort;
 use stock::table::LotTable;
 
 // Commodity 1 is EUR, commodity 2 the part; account 1 is the shelf.
@@ -179,14 +178,21 @@ fn carry_out(table: &mut LotTable, act: Act) -> Answer {
     }
 }
 
-// Carries the cases out upon a table, each upon what the one before left.
-pub fn go_on(rt: &impl Abort, table: &mut LotTable, cases: &[Case]) {
-    for case in cases {
-        assert_eq!(rt; carry_out(table, case.act), case.answer);
+// The first case that was answered otherwise: its place among the cases, and the answer that came.
+pub type Miss = (usize, Answer);
+
+// Carries the cases out upon a table, each upon what the one before left, up to the first that is answered otherwise.
+pub fn go_on(table: &mut LotTable, cases: &[Case]) -> Option<Miss> {
+    for (place, case) in cases.iter().enumerate() {
+        let answer = carry_out(table, case.act);
+        if answer != case.answer {
+            return Some((place, answer));
+        }
     }
+    None
 }
 
 // The same, upon a new table.
-pub fn run(rt: &impl Abort, cases: &[Case]) {
-    go_on(rt, &mut LotTable::new(), cases);
+pub fn run(cases: &[Case]) -> Option<Miss> {
+    go_on(&mut LotTable::new(), cases)
 }

@@ -11,94 +11,91 @@ use weights::*;
 fn drawn_in_the_policys_order(rt: HostRuntime) {
     let first = buy(JANUARY, 1000, Serial(1));
     let second = buy(FEBRUARY, 400, Serial(2));
-    run(
-        &rt,
-        &[
+    assert_eq!(rt;
+        run(&[
             first,
             second,
             sell(By::Fifo, ANY, 1200, Draws(2, (1, 1000), (2, 200), NONE)),
-        ],
+        ]),
+        None
     );
-    run(
-        &rt,
-        &[
+    assert_eq!(rt;
+        run(&[
             first,
             second,
             sell(By::Lifo, ANY, 1200, Draws(2, (2, 400), (1, 800), NONE)),
-        ],
+        ]),
+        None
     );
-    run(
-        &rt,
-        &[
+    assert_eq!(rt;
+        run(&[
             first,
             second,
             sell(By::Fifo, ANY, 400, Draws(1, (1, 400), NONE, NONE)),
-        ],
+        ]),
+        None
     );
-    run(
-        &rt,
-        &[
+    assert_eq!(rt;
+        run(&[
             first,
             second,
             sell(By::WholeFifo, ANY, 400, Draws(1, (2, 400), NONE, NONE)),
-        ],
+        ]),
+        None
     );
     // no lot has exactly 12, so whole-lot leaves it to the policy below
-    run(
-        &rt,
-        &[
+    assert_eq!(rt;
+        run(&[
             first,
             second,
             sell(By::WholeLifo, ANY, 1200, Draws(2, (2, 400), (1, 800), NONE)),
-        ],
+        ]),
+        None
     );
 }
 
 #[test]
 fn what_is_left_to_draw_is_no_whole_lot(rt: HostRuntime) {
     // 8 asked: FIFO empties the 6 and has 2 left to draw, which lot 3 has exactly
-    run(
-        &rt,
-        &[
+    assert_eq!(rt;
+        run(&[
             buy(part(100, 20240101), 600, Serial(1)),
             buy(part(100, 20240102), 400, Serial(2)),
             buy(part(100, 20240103), 200, Serial(3)),
             sell(By::WholeFifo, ANY, 800, Draws(2, (1, 600), (2, 200), NONE)),
-        ],
+        ]),
+        None
     );
 }
 
 #[test]
 fn ties_in_date(rt: HostRuntime) {
-    run(
-        &rt,
-        &[
+    assert_eq!(rt;
+        run(&[
             buy(part(300, 20240101), 100, Serial(1)),
             buy(part(200, 20240101), 100, Serial(2)),
             buy(part(100, 20240101), 100, Serial(3)),
             sell(By::Fifo, ANY, 50, Draws(1, (1, 50), NONE, NONE)),
             sell(By::Lifo, ANY, 150, Draws(2, (3, 100), (2, 50), NONE)),
             sell(By::Fifo, ANY, 70, Draws(2, (1, 50), (2, 20), NONE)),
-        ],
+        ]),
+        None
     );
 }
 
 #[test]
 fn ties_in_units(rt: HostRuntime) {
-    run(
-        &rt,
-        &[
-            buy(part(100, 20240101), 900, Serial(1)),
-            buy(part(100, 20240102), 500, Serial(2)),
-            buy(part(100, 20240103), 500, Serial(3)),
-            sell(By::WholeLifo, ANY, 500, Draws(1, (3, 500), NONE, NONE)),
-            // two lots match, and the earliest has exactly what is asked: whole-lot over STRICT settles, STRICT does not
-            sell(By::Strict, ANY, 500, Refused(23)),
-            sell(By::WholeStrict, ANY, 500, Draws(1, (2, 500), NONE, NONE)),
-            buy(part(100, 20240104), 900, Serial(4)),
-            sell(By::WholeFifo, ANY, 900, Draws(1, (1, 900), NONE, NONE)),
-        ],
-    );
+    assert_eq!(rt; run(&[
+        buy(part(100, 20240101), 900, Serial(1)),
+        buy(part(100, 20240102), 500, Serial(2)),
+        buy(part(100, 20240103), 500, Serial(3)),
+        sell(By::WholeLifo, ANY, 500, Draws(1, (3, 500), NONE, NONE)),
+        // two lots match, and the earliest has exactly what is asked: whole-lot over STRICT settles, STRICT does not
+        sell(By::Strict, ANY, 500, Refused(23)),
+        sell(By::WholeStrict, ANY, 500, Draws(1, (2, 500), NONE, NONE)),
+        buy(part(100, 20240104), 900, Serial(4)),
+        sell(By::WholeFifo, ANY, 900, Draws(1, (1, 900), NONE, NONE)),
+    ]), None);
 }
 
 #[test]
@@ -121,9 +118,8 @@ fn one_cost_of_two_dates(rt: HostRuntime) {
         cost: Some(euro(2500)),
         date: Some(20240102),
     };
-    run(
-        &rt,
-        &[
+    assert_eq!(rt;
+        run(&[
             buy(part(2500, 20240101), 300, Serial(1)),
             buy(part(2500, 20240102), 300, Serial(2)),
             buy(part(2500, 20240101), 200, Serial(1)),
@@ -132,7 +128,8 @@ fn one_cost_of_two_dates(rt: HostRuntime) {
             sell(By::Strict, by_date, 100, Draws(1, (2, 100), NONE, NONE)),
             sell(By::Strict, by_both, 100, Draws(1, (2, 100), NONE, NONE)),
             look(2, Units(100)),
-        ],
+        ]),
+        None
     );
 }
 
@@ -148,96 +145,86 @@ fn a_cost_counts_with_its_commodity(rt: HostRuntime) {
         cost: Some(dollars),
         date: None,
     };
-    run(
-        &rt,
-        &[
-            buy(part(2500, 20240101), 100, Serial(1)),
-            buy(
-                Key {
-                    account: 1,
-                    commodity: 2,
-                    cost: dollars,
-                    date: 20240101,
-                },
-                100,
-                Serial(2),
-            ),
-            // another account's lot matches none of these sales
-            buy(
-                Key {
-                    account: 2,
-                    commodity: 2,
-                    cost: euro(2500),
-                    date: 20240101,
-                },
-                100,
-                Serial(3),
-            ),
-            sell(By::Strict, in_dollars, 40, Draws(1, (2, 40), NONE, NONE)),
-            sell(By::Fifo, ANY, 161, Refused(22)),
-            sell(By::Fifo, ANY, 160, Draws(2, (1, 100), (2, 60), NONE)),
-            look(3, Units(100)),
-        ],
-    );
+    assert_eq!(rt; run(&[
+        buy(part(2500, 20240101), 100, Serial(1)),
+        buy(
+            Key {
+                account: 1,
+                commodity: 2,
+                cost: dollars,
+                date: 20240101,
+            },
+            100,
+            Serial(2),
+        ),
+        // another account's lot matches none of these sales
+        buy(
+            Key {
+                account: 2,
+                commodity: 2,
+                cost: euro(2500),
+                date: 20240101,
+            },
+            100,
+            Serial(3),
+        ),
+        sell(By::Strict, in_dollars, 40, Draws(1, (2, 40), NONE, NONE)),
+        sell(By::Fifo, ANY, 161, Refused(22)),
+        sell(By::Fifo, ANY, 160, Draws(2, (1, 100), (2, 60), NONE)),
+        look(3, Units(100)),
+    ]), None);
 }
 
 #[test]
 fn refused_22_and_23(rt: HostRuntime) {
-    run(
-        &rt,
-        &[
-            buy(JANUARY, 1000, Serial(1)),
-            buy(FEBRUARY, 400, Serial(2)),
-            sell(By::Strict, ANY, 1500, Refused(22)),
-            sell(By::Strict, ANY, 1400, Refused(23)),
-            sell(By::Strict, ANY, 300, Refused(23)),
-            look(1, Units(1000)),
-            look(2, Units(400)),
-            // all that is held is not too much to ask
-            sell(By::Fifo, ANY, 1400, Draws(2, (1, 1000), (2, 400), NONE)),
-            sell(By::Fifo, ANY, 1, Refused(22)),
-        ],
-    );
+    assert_eq!(rt; run(&[
+        buy(JANUARY, 1000, Serial(1)),
+        buy(FEBRUARY, 400, Serial(2)),
+        sell(By::Strict, ANY, 1500, Refused(22)),
+        sell(By::Strict, ANY, 1400, Refused(23)),
+        sell(By::Strict, ANY, 300, Refused(23)),
+        look(1, Units(1000)),
+        look(2, Units(400)),
+        // all that is held is not too much to ask
+        sell(By::Fifo, ANY, 1400, Draws(2, (1, 1000), (2, 400), NONE)),
+        sell(By::Fifo, ANY, 1, Refused(22)),
+    ]), None);
 }
 
 #[test]
 fn an_emptied_lot_is_gone(rt: HostRuntime) {
-    run(
-        &rt,
-        &[
-            buy(JANUARY, 1000, Serial(1)),
-            buy(FEBRUARY, 400, Serial(2)),
-            sell(By::Fifo, ANY, 1000, Draws(1, (1, 1000), NONE, NONE)),
-            look(1, NoLot),
-            // the same key again is a new lot, with a serial of its own, and of the earlier date
-            buy(JANUARY, 700, Serial(3)),
-            sell(By::Fifo, ANY, 100, Draws(1, (3, 100), NONE, NONE)),
-            look(3, Units(600)),
-        ],
-    );
+    assert_eq!(rt; run(&[
+        buy(JANUARY, 1000, Serial(1)),
+        buy(FEBRUARY, 400, Serial(2)),
+        sell(By::Fifo, ANY, 1000, Draws(1, (1, 1000), NONE, NONE)),
+        look(1, NoLot),
+        // the same key again is a new lot, with a serial of its own, and of the earlier date
+        buy(JANUARY, 700, Serial(3)),
+        sell(By::Fifo, ANY, 100, Draws(1, (3, 100), NONE, NONE)),
+        look(3, Units(600)),
+    ]), None);
 }
 
 #[test]
 fn two_hundred_and_fifty_six_lots(rt: HostRuntime) {
     let mut table = LotTable::new();
     for day in 0..256u32 {
-        go_on(&rt, &mut table, &[buy(part(100, day), 10, Serial(day + 1))]);
+        assert_eq!(rt;
+            go_on(&mut table, &[buy(part(100, day), 10, Serial(day + 1))]),
+            None
+        );
     }
     assert_eq!(rt; table.lots().len(), 256);
-    go_on(
-        &rt,
-        &mut table,
-        &[
-            buy(part(100, 256), 10, Refused(24)),
-            // no new lot is needed for a key that is open
-            buy(part(100, 7), 5, Serial(8)),
-            // the place of an emptied lot is used again, its serial is not
-            sell(By::Lifo, ANY, 10, Draws(1, (256, 10), NONE, NONE)),
-            buy(part(100, 256), 10, Serial(257)),
-            sell(By::Fifo, ANY, 2566, Refused(22)),
-            sell(By::Fifo, ANY, 2565, Draws(256, (1, 10), (2, 10), (3, 10))),
-        ],
-    );
+    assert_eq!(rt; go_on(&mut table, &[
+        buy(part(100, 256), 10, Refused(24)),
+        // no new lot is needed for a key that is open
+        buy(part(100, 7), 5, Serial(8)),
+        // the place of an emptied lot is used again, its serial is not
+        sell(By::Lifo, ANY, 10, Draws(1, (256, 10), NONE, NONE)),
+        buy(part(100, 256), 10, Serial(257)),
+        sell(By::Fifo, ANY, 2566, Refused(22)),
+        sell(By::Fifo, ANY, 2565, Draws(256, (1, 10), (2, 10), (3, 10))),
+    ]), None);
     assert_eq!(rt; table.lots().len(), 0);
     assert_eq!(rt; table.next_serial(), 258);
 }
@@ -245,9 +232,8 @@ fn two_hundred_and_fifty_six_lots(rt: HostRuntime) {
 #[test]
 fn units_and_costs_at_their_limits(rt: HostRuntime) {
     let dear = part(99_999_999, 20240101);
-    run(
-        &rt,
-        &[
+    assert_eq!(rt;
+        run(&[
             buy(dear, 0, NoLot),
             buy(dear, 100_000_000, NoLot),
             buy(part(100_000_000, 20240101), 1, NoLot),
@@ -264,20 +250,21 @@ fn units_and_costs_at_their_limits(rt: HostRuntime) {
                 100_000_000,
                 Draws(2, (2, 1), (1, 99_999_999), NONE),
             ),
-        ],
+        ]),
+        None
     );
 }
 
 #[test]
 fn whole_lot_over_whole_lot(rt: HostRuntime) {
-    run(
-        &rt,
-        &[
+    assert_eq!(rt;
+        run(&[
             buy(JANUARY, 1000, Serial(1)),
             buy(FEBRUARY, 400, Serial(2)),
             sell(By::WholeWholeFifo, ANY, 400, Draws(1, (2, 400), NONE, NONE)),
             sell(By::WholeWholeFifo, ANY, 300, Draws(1, (1, 300), NONE, NONE)),
-        ],
+        ]),
+        None
     );
     let twice = WholeLot {
         below: WholeLot { below: Fifo },
@@ -300,19 +287,16 @@ fn names_and_codes(rt: HostRuntime) {
 
 #[test]
 fn a_policy_of_the_tests_own(rt: HostRuntime) {
-    run(
-        &rt,
-        &[
-            buy(part(100, 20240101), 100, Serial(1)),
-            buy(part(300, 20240102), 100, Serial(2)),
-            sell(By::Dearest, ANY, 150, Draws(2, (2, 100), (1, 50), NONE)),
-            buy(part(200, 20240103), 100, Serial(3)),
-            buy(part(300, 20240104), 100, Serial(4)),
-            // three match, which it settles only where whole-lot finds a lot of exactly what is asked
-            sell(By::Dearest, ANY, 100, Refused(23)),
-            sell(By::WholeDearest, ANY, 100, Draws(1, (4, 100), NONE, NONE)),
-        ],
-    );
+    assert_eq!(rt; run(&[
+        buy(part(100, 20240101), 100, Serial(1)),
+        buy(part(300, 20240102), 100, Serial(2)),
+        sell(By::Dearest, ANY, 150, Draws(2, (2, 100), (1, 50), NONE)),
+        buy(part(200, 20240103), 100, Serial(3)),
+        buy(part(300, 20240104), 100, Serial(4)),
+        // three match, which it settles only where whole-lot finds a lot of exactly what is asked
+        sell(By::Dearest, ANY, 100, Refused(23)),
+        sell(By::WholeDearest, ANY, 100, Draws(1, (4, 100), NONE, NONE)),
+    ]), None);
 }
 
 #[test]
