@@ -78,10 +78,17 @@ def chain(text, at):
     return m[1].split(".") if m else []
 
 
+def in_comment(comment, declared):
+    """A comment is prose, and speaks of a definition only in backticks."""
+    return re.sub(r"`[^`\n]*`", lambda m: TOKEN.sub(lambda k: spelled(k[0]) if k[0] in declared else k[0], m[0]), comment)
+
+
 def turned(text, declared, crates):
     stay, far, made = staying(text, crates)
 
     def one(m):
+        if m["comment"]:
+            return in_comment(m[0], declared)
         name = m[0]
         if name in stay:
             return name
@@ -91,7 +98,7 @@ def turned(text, declared, crates):
                 return name
         return spelled(name)
 
-    return TOKEN.sub(one, text)
+    return re.sub(rf"(?m)(?P<comment>(?:(?<=\s)|^)--.*)|{TOKEN.pattern}", one, text)
 
 
 def uncommented(line):
@@ -100,12 +107,12 @@ def uncommented(line):
 
 
 def turned_source(text, declared, crates):
-    """Code has no word with a dash, so each such word outside strings and comments is of a clause. A comment speaks of a definition only in backticks."""
+    """Code has no word with a dash, so each such word outside strings and comments is of a clause."""
     out = []
     for line in text.split("\n"):
         code, comment = uncommented(line)
         parts = re.split(r'(b?"(?:\\.|[^"\\])*")', code)
-        out.append("".join(p if i % 2 else TOKEN.sub(lambda m: spelled(m[0]) if m[0] in declared else m[0], p) for i, p in enumerate(parts)) + comment)
+        out.append("".join(p if i % 2 else TOKEN.sub(lambda m: spelled(m[0]) if m[0] in declared else m[0], p) for i, p in enumerate(parts)) + in_comment(comment, declared))
     return "\n".join(out)
 
 

@@ -1,4 +1,4 @@
--- What the entries of a draft weigh, in ten_thousandths of each commodity, and the blank that balances them.
+-- What the entries of a draft weigh, in ten-thousandths of each commodity, and the blank that balances them.
 use Rattle.std.specs.Prelude.{ℕ, zero, suc, ◌/◌, ◌%◌, Bool, true, false, cond, not, ◌&&◌, ◌||◌, List, [], ◌∷◌, ℤ, pos, negsuc, neg_ℤ, Some, None, Option, ◌==◌, nat_le, unsigned_abs}
 use Rattle.matching.specs.Sums.{sum_of_ints}
 use Rattle.weights.specs.Weights.{plain_weight, purchase_weight, draw_weight, weight_in}

@@ -1,4 +1,4 @@
-// Whether a posting may join a draft, and the posting that it becomes.
+// Tests of the plain arguments of a call.
 #![tactic(auto)]
 
 pub mod checks;

@@ -1,4 +1,4 @@
--- Reading a date: YYYYMMDD. Assumes nothing.
+-- Reading a date: YYYY-MM-DD. Assumes nothing.
 use Rattle.std.specs.Prelude.{ℕ, cond, ◌&&◌, List, length, take, drop, Some, None, Option, Result, ◌==◌, slice_index}
 use Rattle.std.specs.Option.{ok_or}
 use Rattle.values.specs.Calendar.{is_calendar_day, day_number}

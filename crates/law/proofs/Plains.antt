@@ -115,7 +115,7 @@ balances_at (e ∷ es) bs a c len ac all =
     let far = balances_at es (add_kind bs e.kind) a c (kind_length bs e.kind ∙ len) ac all.1 in
     omega (arith, ints)
 
--- AllByRecursion accounts together.
+-- All accounts together.
 
 abbrev amounts_to : ℕ → ℕ → List Entry → ℤ
 amounts_to zero c es = pos 0

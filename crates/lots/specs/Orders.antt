@@ -39,7 +39,7 @@ lifo = record { name = codes "LIFO"; code = 3; before = λ u a b. by_date b a; s
 abbrev pub is_whole : ℕ → LotRow → Bool
 is_whole u a = a.units == u
 
--- WholeLot: a lot of exactly u units comes before one that has not, otherwise the policy below decides.
+-- Whole-lot: a lot of exactly u units comes before one that has not, otherwise the policy below decides.
 -- It settles if the earliest lot has exactly u units, otherwise as below.
 abbrev pub whole_lot : Order → Order
 whole_lot o = record {

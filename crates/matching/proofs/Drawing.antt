@@ -1,4 +1,4 @@
--- What the closed form of a reduction draws_in_order.
+-- What the closed form of a reduction draws, in order.
 use Rattle.std.proofs.Common.{◌≡◌, ℕ, ◌+◌, ◌-◌, ◌<◌, ◌≤◌, min, Bool, true, false, cond, not, ◌&&◌, eqb, leb, List, [], ◌∷◌, sym, refl, ap, ◌∙◌, subst, inl, inr, ⊎_elim, arith}
 use Rattle.std.specs.List.{AllByRecursion}
 use Rattle.std.proofs.ByRecursion.{All-weaker}
@@ -137,7 +137,7 @@ left_same f g (r ∷ rs) all =
 module _ (M : LotRow → Bool) (lt : LotRow → LotRow → Bool)
     (irr : (a : LotRow) → lt a a ≡ false) (trans : (a b c : LotRow) → lt a b ≡ true → lt b c ≡ true → lt a c ≡ true)
     (one : (a b : LotRow) → (a.serial ≡ b.serial → ⊥) → lt a b ≡ not (lt b a)) where
-  -- a matching lot that comes before another is units_before of it with all that is units_before of itself
+  -- of a matching lot that comes before another: the units before it and its own are all before the other one
   units_before_gap : (xs : List LotRow) (a b : LotRow) → Member xs a → M a ≡ true → lt a b ≡ true → units_before M lt xs a + a.units ≤ units_before M lt xs b
   units_before_gap xs a b there fits before =
       sum_of_gap (units_if (λ y. M y && lt y a)) (units_if (λ y. M y && lt y b)) a.units

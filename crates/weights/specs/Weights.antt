@@ -1,4 +1,4 @@
--- What amounts and lots weigh, in unrounded ten_thousandths of a commodity.
+-- What amounts and lots weigh, in unrounded ten-thousandths of a commodity.
 use Rattle.std.specs.Prelude.{List, cond, ℕ, ◌*◌, eqb, ℤ, pos, ◌*ℤ◌, neg_ℤ}
 use Rattle.lots.specs.declared.rows.Key.{Key}
 use Rattle.matching.specs.declared.wanted.Draw.{Draw}

@@ -15,7 +15,7 @@ use Rattle.matching.specs.declared.wanted.Wanted.{Wanted}
 use Rattle.stock.specs.Tables.{Table, no_lots, purchased, reduced}
 use Rattle.weights.specs.Weights.{plain_weight, purchase_weight, draws_weigh}
 
--- a case comes to a number (a date's, hundredths, ten_thousandths of a weight or a serial), or to the number of a refusal
+-- a case comes to a number (a date's, hundredths, ten-thousandths of a weight or a serial), or to the number of a refusal
 pub data Answer : Type 0 where
   value : ℤ → Answer
   refused : ℕ → Answer
