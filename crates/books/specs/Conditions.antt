@@ -1,5 +1,6 @@
 -- When each refusal is met, in the words of the list of refusals (docs/REFUSALS.md). The number stands before each.
 use Rattle.std.specs.Prelude.{ℕ, zero, suc, ◌+◌, Bool, true, false, not, ◌&&◌, ◌||◌, List, length, ℤ, pos, negsuc, ◌-ℤ◌, is_some, ◌==◌, nat_le, nat_lt}
+use Rattle.std.specs.List.{list_any}
 use Rattle.values.specs.Calendar.{is_day}
 use Rattle.values.specs.Names.{is_commodity_name, is_account_name}
 use Rattle.record.specs.Layout.{first_free, most_rows}
@@ -9,7 +10,7 @@ use Rattle.booking.specs.declared.posting.PostingKind.TheVariants.{Blank, Plain,
 use Rattle.booking.specs.Weighing.{is_zero, is_amount, own_agrees}
 use Rattle.books.specs.States.{Names, State}
 use Rattle.books.specs.Calls.{BracesGiven}
-use Rattle.books.specs.Lookups.{any, commodity_number, account_number, open_account, any_under, number_or_0, own_of, is_account, is_commodity}
+use Rattle.books.specs.Lookups.{commodity_number, account_number, open_account, any_under, number_or_0, own_of, is_account, is_commodity}
 use Rattle.books.specs.Holdings.{holdings_under, is_empty_account}
 
 -- 1: a draft is under way
@@ -85,7 +86,7 @@ is_blank (Reduction units commodity cost date) = false
 
 -- 19, of a posting that is a blank: the draft holds one already
 abbrev pub holds_a_blank : List Posting → Bool
-holds_a_blank ps = any (λ p. is_blank p.kind) ps
+holds_a_blank ps = list_any (λ p. is_blank p.kind) ps
 
 -- 20: braces with 0 units, or with units above 0 and no cost
 abbrev pub braces_without_use : ℤ → BracesGiven → Bool

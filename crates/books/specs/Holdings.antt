@@ -1,12 +1,13 @@
 -- What accounts hold.
 use Rattle.std.specs.Prelude.{ℕ, zero, suc, ◌+◌, Bool, true, cond, not, ◌&&◌, List, [], ◌∷◌, ℤ, pos, ◌+ℤ◌, None, nat_eq}
+use Rattle.std.specs.List.{list_any}
 use Rattle.values.specs.Names.{lies_under}
 use Rattle.matching.specs.Matching.{matches, units_matching}
 use Rattle.booking.specs.Postings.{wanted_lots}
 use Rattle.booking.specs.Weighing.{is_zero}
 use Rattle.booking.specs.Balances.{balance_in}
-use Rattle.books.specs.States.{Account, Books}
-use Rattle.books.specs.Lookups.{any}
+use Rattle.books.specs.declared.account.Account.{Account}
+use Rattle.books.specs.States.{Books}
 
 -- the plain balance of an account in a commodity
 abbrev pub plain_balance : Books → ℕ → ℕ → ℤ
@@ -31,7 +32,7 @@ no_plain_balance b a zero = true
 no_plain_balance b a (suc c) = is_zero (plain_balance b a (suc c)) && no_plain_balance b a c
 
 abbrev pub has_lot : Books → ℕ → Bool
-has_lot b a = any (λ r. nat_eq r.key.account a) b.table.lots
+has_lot b a = list_any (λ r. nat_eq r.key.account a) b.table.lots
 
 -- no lot, and no plain balance but 0
 abbrev pub is_empty_account : Books → ℕ → Bool

@@ -8,6 +8,6 @@ pub mod Changes
 pub mod Steps
 pub mod Recording
 pub mod Questions
-pub mod View
+pub mod Padding
 pub mod Given
 pub mod Checks

@@ -1,34 +1,26 @@
--- Finding commodities and accounts by their names.
+-- Finding commodities and accounts by their names. `position_from test n` is the number of the first that passes, counted from n.
 use Rattle.std.specs.Prelude.{ℕ, ◌+◌, ◌-◌, Bool, false, cond, ◌&&◌, ◌||◌, List, [], ◌∷◌, length, Some, None, Option, nat_le, slice_index_or}
+use Rattle.std.specs.List.{list_any, position_from}
 use Rattle.std.specs.Option.{unwrap_or}
 use Rattle.std.specs.Str.{bytes_eq}
 use Rattle.values.specs.Names.{lies_under}
-use Rattle.books.specs.States.{Account, Names}
-
--- the number of the first that passes a test, where the list is counted from n
-abbrev pub number_of_first : {X : Type 0} → (X → Bool) → ℕ → List X → Option ℕ
-number_of_first test n [] = None
-number_of_first test n (x ∷ xs) = cond (test x) (Some n) (number_of_first test (n + 1) xs)
-
--- one of the list passes a test
-abbrev pub any : {X : Type 0} → (X → Bool) → List X → Bool
-any test [] = false
-any test (x ∷ xs) = test x || any test xs
+use Rattle.books.specs.declared.account.Account.{Account}
+use Rattle.books.specs.States.{Names}
 
 abbrev pub commodity_number : Names → List ℕ → Option ℕ
-commodity_number k name = number_of_first (λ other. bytes_eq other name) 1 k.commodities
+commodity_number k name = position_from (λ other. bytes_eq other name) 1 k.commodities
 
 -- an account of this name that was opened, closed or not
 abbrev pub account_number : Names → List ℕ → Option ℕ
-account_number k name = number_of_first (λ account. bytes_eq account.name name) 1 k.accounts
+account_number k name = position_from (λ account. bytes_eq account.name name) 1 k.accounts
 
 -- one that is open
 abbrev pub open_account : Names → List ℕ → Option ℕ
-open_account k name = number_of_first (λ account. account.is_open && bytes_eq account.name name) 1 k.accounts
+open_account k name = position_from (λ account. account.is_open && bytes_eq account.name name) 1 k.accounts
 
 -- some account that lies under this name was opened, closed or not
 abbrev pub any_under : Names → List ℕ → Bool
-any_under k name = any (λ account. lies_under account.name name) k.accounts
+any_under k name = list_any (λ account. lies_under account.name name) k.accounts
 
 -- the number, 0 where there is none
 abbrev pub number_or_0 : Option ℕ → ℕ

@@ -1,15 +1,10 @@
 -- The ledger as lists and numbers.
-use Rattle.std.specs.Prelude.{ℕ, Bool, List, [], ℤ, None, Option}
+use Rattle.std.specs.Prelude.{ℕ, List, [], ℤ, None, Option}
 use Rattle.values.specs.declared.flag.Flag.{Flag}
 use Rattle.stock.specs.Tables.{Table, no_lots}
 use Rattle.booking.specs.declared.posting.Posting.{Posting}
 use Rattle.booking.specs.Balances.{no_balances}
-
--- an account: its name, the number of its own commodity or none, and whether it is open still
-pub record Account : Type 0 where
-  pub name : List ℕ
-  pub own : Option ℕ
-  pub is_open : Bool
+use Rattle.books.specs.declared.account.Account.{Account}
 
 -- commodities as declared and accounts as opened, each counted from 1
 pub record Names : Type 0 where

@@ -1,2 +1,2 @@
-pub mod Firsts
-pub mod Mapped
+pub mod Finding
+pub mod Whole

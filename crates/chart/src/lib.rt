@@ -1,5 +1,4 @@
 // The commodities as declared and the accounts as opened: found by name, added, closed.
 #![tactic(auto)]
 
-pub mod search;
 pub mod table;

@@ -1,10 +1,17 @@
-// The commodities as declared and the accounts as opened, each counted from 1.
+// The commodities as declared and the accounts as opened, each counted from 1: found by name, added, closed.
+// Clauses see a chart as the names of a ledger's state.
+ghost use Rattle.std.specs.Prelude.{◌≡◌, ◌+◌, ◌-◌, ◌<◌, ◌≤◌, true, false, length, Some};
+ghost use Rattle.values.specs.Names.{is_commodity_name, is_account_name};
+ghost use Rattle.books.specs.Conditions.{commodities_full, accounts_full};
+ghost use Rattle.books.specs.Lookups.{commodity_number, account_number, open_account, any_under, own_of};
+ghost use Rattle.books.specs.Changes as books;
+ghost use Rattle.chart.specs.Changes.{no_names, with_commodity, with_account, with_closed, account_added};
+
 use books::account::Account;
 use books::name::Name;
 use bounded::list::Bounded;
-
-pub mod changes;
-pub mod questions;
+use std::marker::Model;
+use values::names::is_under;
 
 // The most commodities, and the most accounts that are ever opened.
 pub const MOST_COMMODITIES: usize = 16;
@@ -15,4 +22,154 @@ pub const MOST_ACCOUNTS: usize = 64;
 pub struct Chart {
     commodities: Bounded<Name, MOST_COMMODITIES>,
     accounts: Bounded<Account, MOST_ACCOUNTS>,
+}
+
+impl Model for Chart {
+    ghost use Rattle.books.specs.States.{Names};
+
+    ghost Value = { Names };
+
+    ghost view = { λ c. record { commodities = c.commodities; accounts = c.accounts } };
+}
+
+// The numbers of the commodity and of the account at a place: both are counted from 1.
+fn commodity_at(place: usize) -> u8
+    requires { place < 16 }
+    ensures { result ≡ place + 1 }
+{
+    place as u8 + 1
+}
+
+fn account_at(place: usize) -> u16
+    requires { place < 64 }
+    ensures { result ≡ place + 1 }
+{
+    place as u16 + 1
+}
+
+fn place_of(account: u16) -> usize
+    ensures { result ≡ account - 1 }
+{
+    (account as usize).saturating_sub(1)
+}
+
+// What can be asked of a chart.
+impl Chart {
+    // The number of a declared commodity.
+    pub fn commodity(&self, name: &[u8]) -> Option<u8>
+        ensures { result ≡ commodity_number self.now name.now }
+    {
+        self.commodities
+            .as_slice()
+            .iter()
+            .position(|kept| kept.as_slice() == name)
+            .map(commodity_at)
+    }
+
+    // The number of an account that was opened, closed or not.
+    pub fn account(&self, name: &[u8]) -> Option<u16>
+        ensures { result ≡ account_number self.now name.now }
+    {
+        self.account_list()
+            .iter()
+            .position(|account| account.name.as_slice() == name)
+            .map(account_at)
+    }
+
+    // The number of an account that is open.
+    pub fn open_account(&self, name: &[u8]) -> Option<u16>
+        ensures { result ≡ open_account self.now name.now }
+    {
+        self.account_list()
+            .iter()
+            .position(|account| account.is_open && account.name.as_slice() == name)
+            .map(account_at)
+    }
+
+    // Whether an account that lies under a name was ever opened.
+    pub fn has_under(&self, name: &[u8]) -> bool
+        ensures { result ≡ any_under self.now name.now }
+    {
+        self.account_list()
+            .iter()
+            .any(|account| is_under(account.name.as_slice(), name))
+    }
+
+    // The own commodity of the account of a number, if it has one.
+    pub fn own(&self, account: u16) -> Option<u8>
+        ensures { result ≡ own_of self.now (Some account) }
+    {
+        self.account_list().get(place_of(account))?.own
+    }
+
+    pub fn commodities(&self) -> usize
+        ensures { result ≡ length self.now.commodities }
+    {
+        self.commodities.as_slice().len()
+    }
+
+    // The accounts in the order in which they were opened.
+    pub fn account_list(&self) -> &[Account]
+        ensures listed { result.now ≡ self.now.accounts }
+        ensures few { length result.now ≤ 64 }
+    {
+        self.accounts.as_slice()
+    }
+
+    pub fn accounts(&self) -> usize
+        ensures { result ≡ length self.now.accounts }
+    {
+        self.account_list().len()
+    }
+}
+
+// A new chart, and what changes one. Nothing is tested here: a call on the ledger has refused what is not allowed.
+impl Chart {
+    pub fn new() -> Chart
+        ensures { result ≡ no_names }
+    {
+        let name = Name::new(b"");
+        Chart {
+            commodities: Bounded::new(name),
+            accounts: Bounded::new(Account {
+                name,
+                own: None,
+                is_open: false,
+            }),
+        }
+    }
+
+    // One more commodity, unless there are 16.
+    pub fn declare(&mut self, name: &[u8])
+        ensures defined { self.new ≡ with_commodity name.now self.old }
+        ensures allowed { is_commodity_name name.now ≡ true → commodities_full self.old ≡ false → self.new ≡ books.with_commodity self.old name.now }
+    {
+        let _ = self.commodities.push(Name::new(name));
+    }
+
+    // One more account, unless there are 64.
+    pub fn open(&mut self, name: &[u8], own: Option<u8>)
+        ensures defined { self.new ≡ with_account name.now own self.old }
+        ensures allowed { is_account_name name.now ≡ true → accounts_full self.old ≡ false → self.new ≡ account_added name.now own self.old }
+    {
+        let _ = self.accounts.push(Account {
+            name: Name::new(name),
+            own,
+            is_open: true,
+        });
+    }
+
+    // The account of a number is open no more.
+    pub fn close(&mut self, account: u16)
+        ensures { self.new ≡ with_closed account self.old }
+    {
+        let place = place_of(account);
+        if let Some(kept) = self.account_list().get(place) {
+            let closed = Account {
+                is_open: false,
+                ..*kept
+            };
+            self.accounts.put(place, closed);
+        }
+    }
 }

@@ -8,7 +8,8 @@ use Rattle.refusal.specs.Table.{number_of}
 use Rattle.matching.proofs.Sums.{by_bool}
 use Rattle.booking.specs.Booking.{at_line, or_else, fault_at}
 use Rattle.booking.specs.Balances.{first_met}
-use Rattle.books.specs.Lookups.{number_of_first, number_or_0}
+use Rattle.std.specs.List.{position_from}
+use Rattle.books.specs.Lookups.{number_or_0}
 use Rattle.books.specs.Refusals.{tests_at, first_fault_met}
 use Rattle.books.proofs.Nested.{first_at}
 use Rattle.law.proofs.Reaching.{none_some, fault_number}
@@ -51,12 +52,12 @@ number_differs (t ∷ ts) n line all e =
     cond_both t.1 (Some t.0) (first_met ts) (λ m. fault_number (at_line line m) ≡ Some n → ⊥) (λ _ e. all.0 (cc)) (λ _. number_differs ts n line all.1) e
 
 -- a number that is found counts one of the list
-pub number_there : {X : Type 0} (test : X → Bool) (n : ℕ) (xs : List X) → not (is_some (number_of_first test n xs)) ≡ false
-    → (n ≤ number_or_0 (number_of_first test n xs)) × (number_or_0 (number_of_first test n xs) < n + length xs)
+pub number_there : {X : Type 0} (test : X → Bool) (n : ℕ) (xs : List X) → not (is_some (position_from test n xs)) ≡ false
+    → (n ≤ number_or_0 (position_from test n xs)) × (number_or_0 (position_from test n xs) < n + length xs)
 number_there test n [] e = absurd (both_ways true e refl)
 number_there test n (x ∷ xs) found =
-    by_bool (test x) (λ (b : Bool). not (is_some (cond b (Some n) (number_of_first test (n + 1) xs))) ≡ false
-    → (n ≤ number_or_0 (cond b (Some n) (number_of_first test (n + 1) xs))) × (number_or_0 (cond b (Some n) (number_of_first test (n + 1) xs)) < n + length (x ∷ xs)))
+    by_bool (test x) (λ (b : Bool). not (is_some (cond b (Some n) (position_from test (n + 1) xs))) ≡ false
+    → (n ≤ number_or_0 (cond b (Some n) (position_from test (n + 1) xs))) × (number_or_0 (cond b (Some n) (position_from test (n + 1) xs)) < n + length (x ∷ xs)))
     (λ _ _. (omega arith, omega arith))
     (λ _ e. let ih = number_there test (n + 1) xs e in let low = ih.0 in let high = ih.1 in (omega arith, omega arith))
     found

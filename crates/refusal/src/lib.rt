@@ -4,8 +4,10 @@
 ghost use Rattle.std.specs.Prelude.{◌≡◌};
 ghost use Rattle.refusal.specs.Table.{number_of, layer_of, name_of, Alone};
 
+use std::fmt;
+
 // The part of the ledger that turned a call down.
-#[derive(Clone, Copy)]
+#[derive(Clone, Copy, PartialEq, Eq, Debug)]
 pub enum Layer {
     Host,
     Text,
@@ -16,7 +18,7 @@ pub enum Layer {
 }
 
 // In the order of the list: of several that a call meets, the one higher up comes back (docs/REFUSALS.md).
-#[derive(Clone, Copy)]
+#[derive(Clone, Copy, PartialEq, Eq, Debug)]
 pub enum Refusal {
     DraftUnderWay = 1,
     NoSuchDraft = 2,
@@ -54,7 +56,7 @@ pub enum Refusal {
 
 // A refusal as it is reported. The line is the source number of the directive or posting at fault;
 // the place is where in that line, from 1, the field at fault starts. Both are 0 where they say nothing.
-#[derive(Clone, Copy)]
+#[derive(Clone, Copy, PartialEq, Eq, Debug)]
 pub struct Fault {
     pub refusal: Refusal,
     pub line: u32,
@@ -108,5 +110,25 @@ impl Layer {
             Layer::Weights => "weights",
             Layer::Buffers => "buffers",
         }
+    }
+}
+
+impl fmt::Display for Layer {
+    fn fmt<W: fmt::Write>(&self, f: &mut fmt::Formatter<W>) -> fmt::Result {
+        f.write_str(self.name())
+    }
+}
+
+// A refusal as it is reported.
+impl fmt::Display for Fault {
+    fn fmt<W: fmt::Write>(&self, f: &mut fmt::Formatter<W>) -> fmt::Result {
+        write!(
+            f,
+            "refused {} line {} place {} layer {}",
+            self.refusal.number(),
+            self.line,
+            self.place,
+            self.refusal.layer()
+        )
     }
 }

@@ -1,6 +1,20 @@
-use Rattle.std.proofs.Common.{length, ap, ◌∙◌}
-use Rattle.std.proofs.lemmas.List.{take_at}
+use Rattle.std.proofs.Common.{ℕ, ◌≤◌, List, length, drop, replicate, ap, ◌∙◌, arith, length-append}
+use Rattle.std.proofs.lemmas.List.{take_at, length-drop, drop-replicate}
+use Rattle.std.proofs.lemmas.Slice.{drop-append-drop}
 use Rattle.books.proofs.name.Name.new.Goals as goal
+
+pub invariant_of-result : goal.invariant_of-result
+invariant_of-result c =
+    let n = length c.front-kept.result.now in
+    let same = ap length c.copy_from_slice.ensures.after in
+    let few : n ≤ 48 = omega (arith, c.front-kept.ensures.len) in
+    let places : List ℕ = replicate 48 0 in (
+      few,
+      (
+        omega (arith, few, same, length-append c.copy_from_slice.new.self (drop n places), length-drop n places),
+        drop-append-drop n places c.copy_from_slice.new.self n (omega arith) same ∙ drop-replicate n 48 0,
+      ),
+    )
 
 pub returns : goal.returns
 returns c =

@@ -1,14 +1,8 @@
--- A chart as the names of a ledger's state, and what changes it.
-use Rattle.std.specs.Prelude.{ℕ, ◌-◌, true, cond, List, [], ◌∷◌, ◌++◌, map, length, take, Option, nat_le, slice_set}
-use Rattle.bounded.specs.Items.{items}
+-- What changes the names of a ledger.
+use Rattle.std.specs.Prelude.{ℕ, ◌-◌, true, cond, List, [], ◌∷◌, ◌++◌, length, take, Option, nat_le, slice_set}
 use Rattle.books.specs.Changes.{closed}
-use Rattle.books.specs.View.{name_bytes, account_of}
 use Rattle.books.specs.Lookups.{account_at}
 use Rattle.books.specs.States.{Names}
-use Rattle.chart.specs.declared.table.Chart.{Chart}
-
-abbrev pub names_of : Chart → Names
-names_of c = record { commodities = map name_bytes (items c.commodities); accounts = map account_of (items c.accounts) }
 
 abbrev pub no_names : Names
 no_names = record { commodities = []; accounts = [] }
