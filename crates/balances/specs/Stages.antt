@@ -7,10 +7,6 @@ use Rattle.booking.specs.declared.entry.Entry.{Entry}
 use Rattle.booking.specs.Weighing.{complete}
 use Rattle.booking.specs.Balances.{balances_after, all_within, first_met, weighing_tests}
 use Rattle.booking.specs.Stages.{unless}
-use Rattle.balances.specs.declared.table.Balances.{Balances}
-
-abbrev pub balances_in : Balances → List ℤ
-balances_in b = b.places
 
 -- 27, or the balances after entries
 abbrev pub settled_balances : List ℤ → List Entry → Result (List ℤ) Refusal

@@ -1,14 +1,65 @@
-// The table of the plain balances: 16 commodities for each of 64 accounts, none larger than the largest that a settling leaves.
-ghost use Rattle.std.specs.Prelude.{◌≡◌, true};
-ghost use Rattle.booking.specs.Balances.{all_within};
+// The plain balances: 16 commodities for each of 64 accounts, none larger than the largest that a settling leaves.
+// Clauses see them as the list of the places.
+ghost use Rattle.std.specs.Prelude.{◌≡◌, ◌≤◌, unsigned_abs};
+ghost use Rattle.stock.specs.Promises.{map_ok};
+ghost use Rattle.booking.specs.Balances.{no_balances, balance_in, largest_balance};
+ghost use Rattle.balances.specs.Stages.{settled_balances};
 
-pub mod adding;
-pub mod calls;
+use self::adding::{add_entries, all_within, place};
+use booking::entries::Entries;
+use refusal::Refusal;
+use std::marker::Model;
+
+mod adding;
 
 pub const PLACES: usize = 1024;
 
 #[derive(Drop)]
 pub struct Balances {
     places: [i64; PLACES],
-    ghost within: { all_within places ≡ true },
+}
+
+impl Model for Balances {
+    ghost use Rattle.std.specs.Prelude.{◌≡◌, true, List, ℤ};
+    ghost use Rattle.booking.specs.Balances.{all_within};
+
+    ghost Value = { List ℤ };
+
+    ghost view = { λ b. b.places };
+
+    ghost invariant = { λ b. all_within b.places ≡ true };
+}
+
+impl Balances {
+    // Every balance is 0.
+    pub fn new() -> Balances
+        ensures { result ≡ no_balances }
+    {
+        Balances {
+            places: [0; PLACES],
+        }
+    }
+
+    // The plain balance of an account in a commodity; one that has no place has none.
+    pub fn balance(&self, account: u16, commodity: u8) -> i64
+        ensures value { result ≡ balance_in self.now account commodity }
+        ensures small { unsigned_abs result ≤ largest_balance }
+    {
+        self.places
+            .get(place(account, commodity))
+            .copied()
+            .unwrap_or(0)
+    }
+
+    // The balances after the entries of a draft; 27 where one would be too large.
+    pub fn after(&self, entries: &Entries) -> Result<Balances, Refusal>
+        ensures { result ≡ settled_balances self.now entries.now }
+    {
+        let mut places = self.places;
+        add_entries(&mut places, entries.as_slice());
+        if !all_within(&places) {
+            return Err(Refusal::BalanceTooLarge);
+        }
+        Ok(Balances { places })
+    }
 }

@@ -1,9 +1,8 @@
 // A booked draft is weighed: 25, 26 and 27, in the order of the list of refusals.
 ghost use Rattle.std.specs.Prelude.{◌≡◌};
 ghost use Rattle.stock.specs.Promises.{map_ok};
-ghost use Rattle.booking.specs.View.{entries_in};
 ghost use Rattle.balancing.specs.Summary.{entries_after};
-ghost use Rattle.balances.specs.Stages.{balances_in, weighed};
+ghost use Rattle.balances.specs.Stages.{weighed};
 
 use crate::table::Balances;
 use balancing::balance::balance;
@@ -19,8 +18,8 @@ pub fn weigh(
     own: Option<u8>,
     balances: &Balances,
 ) -> Result<Balances, Refusal>
-    ensures defined { map_ok (λ b. (entries_in entries.new, balances_in b)) result ≡ weighed postings.now own (balances_in balances.now) (entries_in entries.old) }
-    ensures entries { entries_in entries.new ≡ entries_after postings.now own (entries_in entries.old) }
+    ensures defined { map_ok (λ b. (entries.new, b)) result ≡ weighed postings.now own balances.now entries.old }
+    ensures entries { entries.new ≡ entries_after postings.now own entries.old }
 {
     balance(postings, entries, own)?;
     balances.after(entries)

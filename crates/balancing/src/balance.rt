@@ -1,8 +1,7 @@
 // Whether a draft balances: 25, the blank, and 26.
 ghost use Rattle.std.specs.Prelude.{◌≡◌, length, OnErr};
 ghost use Rattle.stock.specs.Promises.{map_ok};
-ghost use Rattle.booking.specs.Weighing.{own_agrees, has_blank};
-ghost use Rattle.booking.specs.View.{entries_in};
+ghost use Rattle.booking.specs.Weighing.{has_blank};
 ghost use Rattle.balancing.specs.Summary.{amount_for, with_blank, without_blank, balanced, entries_after};
 
 use crate::unbalanced::{Unbalanced, unbalanced_in};
@@ -26,37 +25,22 @@ fn amount_for(sum: i128) -> Option<i32>
     if sum < 0 { Some(amount) } else { Some(-amount) }
 }
 
-// Whether a commodity is the own one of an account, if it has one.
-fn own_agrees(own: Option<u8>, commodity: u8) -> bool
-    ensures { result ≡ own_agrees own commodity }
-{
-    match own {
-        None => true,
-        Some(own) => own == commodity,
-    }
-}
-
 fn has_blank(entries: &[Entry]) -> bool
     ensures { result ≡ has_blank entries.now }
 {
-    for entry in entries {
-        if entry.kind.is_unfilled() {
-            return true;
-        }
-    }
-    false
+    entries.iter().any(|entry| entry.kind.is_unfilled())
 }
 
 // The blank takes what the one commodity that is out of balance lacks.
 fn fill(entries: &mut Entries, own: Option<u8>, unbalanced: Unbalanced) -> Result<(), Refusal>
-    ensures defined { map_ok (λ _. entries_in entries.new) result ≡ with_blank own (entries_in entries.old) unbalanced }
-    ensures refused { OnErr result (entries_in entries.new ≡ entries_in entries.old) }
+    ensures defined { map_ok (λ _. entries.new) result ≡ with_blank own entries.old unbalanced }
+    ensures refused { OnErr result (entries.new ≡ entries.old) }
 {
     let Unbalanced::Only { commodity, sum } = unbalanced else {
         return Err(Refusal::BlankCannotBeFilled);
     };
     match amount_for(sum) {
-        Some(amount) if own_agrees(own, commodity) => {
+        Some(amount) if own.is_none_or(|own| own == commodity) => {
             entries.fill_blank(amount, commodity);
             Ok(())
         }
@@ -67,8 +51,8 @@ fn fill(entries: &mut Entries, own: Option<u8>, unbalanced: Unbalanced) -> Resul
 // Fills the blank of a booked draft, or finds that it has none and balances; refused, the entries stay as they are.
 // `own` is the own commodity of the blank's account.
 pub fn balance(postings: &[Posting], entries: &mut Entries, own: Option<u8>) -> Result<(), Refusal>
-    ensures defined { map_ok (λ _. entries_in entries.new) result ≡ balanced postings.now own (entries_in entries.old) }
-    ensures entries { entries_in entries.new ≡ entries_after postings.now own (entries_in entries.old) }
+    ensures defined { map_ok (λ _. entries.new) result ≡ balanced postings.now own entries.old }
+    ensures entries { entries.new ≡ entries_after postings.now own entries.old }
 {
     if postings.is_empty() {
         return Err(Refusal::NotBalanced);

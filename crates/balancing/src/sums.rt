@@ -25,21 +25,18 @@ fn kind_weight(kind: &EntryKind, commodity: u8) -> i128
 {
     match *kind {
         EntryKind::PlainAmount {
-            account: _,
             amount,
             commodity: own,
+            ..
         } => { weight_in(&plain_weight(amount, own), commodity) }
-        EntryKind::Unfilled { account: _ } => 0,
+        EntryKind::Unfilled { .. } => 0,
+        // no part of the arm above: of a pattern that binds an i32 in two ways no proof is made
         EntryKind::Filled {
-            account: _,
             amount,
             commodity: own,
+            ..
         } => { weight_in(&plain_weight(amount, own), commodity) }
-        EntryKind::Bought {
-            key,
-            units,
-            serial: _,
-        } => { weight_in(&weight_of_key(&key, units), commodity) }
+        EntryKind::Bought { key, units, .. } => weight_in(&weight_of_key(&key, units), commodity),
         EntryKind::Drew(draw) => weight_in(&draw_weight(&draw), commodity),
     }
 }

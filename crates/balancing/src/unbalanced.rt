@@ -10,7 +10,7 @@ use booking::entry::Entry;
 const COMMODITIES: u8 = 16;
 
 // None, one with what its weights sum to, or several.
-#[derive(Clone, Copy)]
+#[derive(Clone, Copy, PartialEq, Eq, Debug)]
 pub enum Unbalanced {
     Nothing,
     Only { commodity: u8, sum: i128 },
@@ -37,8 +37,7 @@ pub fn unbalanced_in(entries: &[Entry]) -> Unbalanced
     ensures { result ≡ summary (weight_sum entries.now) (unbalanced_in entries.now) }
 {
     let mut found = Unbalanced::Nothing;
-    for before in 0..COMMODITIES {
-        let commodity = before + 1;
+    for commodity in 1..=COMMODITIES {
         found = found.and_commodity(commodity, weight_sum(entries, commodity));
     }
     found

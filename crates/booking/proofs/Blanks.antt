@@ -1,11 +1,12 @@
 -- The first blank by its place.
-use Rattle.std.proofs.Common.{◌≡◌, ℕ, suc, ◌+◌, ◌<◌, ◌≤◌, Bool, true, cond, not, List, [], ◌∷◌, length, get_or, set, ℤ, pos, Option, sym, refl, ap, ◌∙◌, arith}
+use Rattle.std.proofs.Common.{◌≡◌, ℕ, suc, ◌+◌, ◌<◌, ◌≤◌, Bool, true, false, cond, not, ltb, List, [], ◌∷◌, length, get_or, set, ℤ, pos, Some, None, Option, sym, refl, ap, ◌∙◌, ⊎_elim, arith}
+use Rattle.std.proofs.lemmas.Bool.{cases_Bool, cond-true, cond-false, ltb-true, ltb-false}
 use Rattle.matching.proofs.Sums.{by_bool}
 use Rattle.booking.specs.declared.entry.Entry.{Entry}
 use Rattle.booking.specs.declared.entry.EntryKind.{EntryKind}
 use Rattle.booking.specs.declared.entry.EntryKind.TheVariants.{PlainAmount, Unfilled, Filled, Bought, Drew}
 use Rattle.booking.specs.Ranges.{entry_kind_in_range}
-use Rattle.booking.specs.Places.{blank_place}
+use Rattle.std.specs.List.{position_or_len}
 use Rattle.booking.specs.Weighing.{is_unfilled, filled_with, fill, account_of_blank}
 
 -- what is read past the end
@@ -14,6 +15,10 @@ no_entry = record { line = 0; kind = PlainAmount 0 (pos 0) 0 }
 
 abbrev pub filled_entry : ℤ → ℕ → Entry → Entry
 filled_entry z c e = record { line = e.line; kind = filled_with z c e.kind }
+
+-- the place of the first blank; past the end where there is none
+abbrev pub blank_place : List Entry → ℕ
+blank_place es = position_or_len (λ e. is_unfilled e.kind) es
 
 pub fill_at : (z : ℤ) (c : ℕ) (es : List Entry) (d : Entry) → blank_place es < length es → fill z c es ≡ set es (blank_place es) (filled_entry z c (get_or es (blank_place es) d))
 fill_at z c [] d h = absurd (omega arith)
@@ -34,6 +39,21 @@ fill_none z c (e ∷ es) h =
     (λ _ l. absurd (omega arith))
     (λ _ l. ap (λ (ys : List Entry). e ∷ ys) (fill_none z c es (omega arith)))
     h
+
+-- what `position` answers of it
+pub place_found : (es : List Entry) (r : Option ℕ) (n : ℕ) → r ≡ cond (ltb (blank_place es) (length es)) (Some (blank_place es)) None → r ≡ Some n → (n ≡ blank_place es) × (blank_place es < length es)
+place_found es r n e is =
+    ⊎_elim
+    (λ (t : ltb (blank_place es) (length es) ≡ true). let f = sym is ∙ e ∙ cond-true _ (Some (blank_place es)) None t in (cc, ltb-true (blank_place es) (length es) t))
+    (λ (t : ltb (blank_place es) (length es) ≡ false). let f = sym is ∙ e ∙ cond-false _ (Some (blank_place es)) None t in let z : ◌≡◌ {A = ℕ} 0 1 = cc in absurd (omega arith))
+    (cases_Bool (ltb (blank_place es) (length es)))
+
+pub place_missing : (es : List Entry) (r : Option ℕ) → r ≡ cond (ltb (blank_place es) (length es)) (Some (blank_place es)) None → r ≡ None → length es ≤ blank_place es
+place_missing es r e is =
+    ⊎_elim
+    (λ (t : ltb (blank_place es) (length es) ≡ true). let f = sym is ∙ e ∙ cond-true _ (Some (blank_place es)) None t in let z : ◌≡◌ {A = ℕ} 0 1 = cc in absurd (omega arith))
+    (λ (t : ltb (blank_place es) (length es) ≡ false). ltb-false (blank_place es) (length es) t)
+    (cases_Bool (ltb (blank_place es) (length es)))
 
 pub filled_in_range : (z : ℤ) (c : ℕ) (k : EntryKind) → entry_kind_in_range k ≡ true → entry_kind_in_range (filled_with z c k) ≡ true
 filled_in_range z c (PlainAmount _ _ _) h = refl

@@ -2,7 +2,7 @@
 use Rattle.std.proofs.Common.{◌≡◌, ℕ, zero, suc, ◌<◌, Bool, true, leb, List, [], ◌∷◌, ◌++◌, length, get_or, set, Ok, Err, Result, sym, refl, ap, subst, arith}
 use Rattle.std.specs.List.{AllByRecursion, list_all}
 use Rattle.std.proofs.lemmas.Bool.{and_parts, and_from, cond_both}
-use Rattle.bounded.specs.declared.list.calls.Full.{Full}
+use Rattle.bounded.specs.declared.list.Full.{Full}
 use Rattle.bounded.specs.Items.{pushed}
 
 module _ {X : Type 0} (p : X → Bool) where

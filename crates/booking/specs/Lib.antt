@@ -4,6 +4,4 @@ pub mod Weighing
 pub mod Balances
 pub mod Rows
 pub mod Ranges
-pub mod Places
 pub mod Stages
-pub mod View

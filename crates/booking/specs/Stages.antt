@@ -6,7 +6,7 @@ use Rattle.lots.specs.declared.rows.Key.{Key}
 use Rattle.lots.specs.Orders.{Order}
 use Rattle.matching.specs.declared.wanted.Wanted.{Wanted}
 use Rattle.matching.specs.Drawing.{draws_of}
-use Rattle.stock.specs.Tables.{Table, serial_for, purchase_refusal, table_after_purchase, reduction_refusal, table_after_reduction}
+use Rattle.stock.specs.Tables.{Table, last_serial, serial_for, purchase_refusal, table_after_purchase, reduction_refusal, table_after_reduction}
 use Rattle.booking.specs.declared.posting.Posting.{Posting}
 use Rattle.booking.specs.declared.posting.PostingKind.{PostingKind}
 use Rattle.booking.specs.declared.entry.Entry.{Entry}
@@ -42,6 +42,13 @@ book_postings o day b ps = unless (first_fault o day b.0 ps) (table_after o day 
 -- a whole draft
 abbrev pub book_draft : Order → ℕ → Table → List Posting → Result (Table × List Entry) Fault
 book_draft o day t ps = unless (first_fault o day t ps) (table_after o day t ps, entries_of o day t ps)
+
+-- room for the entries of one posting more, and for the serial of a lot that it opens
+abbrev pub HasRoom : Table × List Entry → Type 0
+HasRoom b = length b.1 + length b.0.lots ≤ 286
+
+abbrev pub HasSerials : Table × List Entry → Type 0
+HasSerials b = b.0.next + 1 ≤ last_serial
 
 -- With a posting, entries and open lots together grow by at most 2, and each new serial comes with an entry.
 pub record Grows (before after : Table × List Entry) : Type 0 where

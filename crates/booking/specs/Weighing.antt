@@ -1,5 +1,6 @@
 -- What the entries of a draft weigh, in ten-thousandths of each commodity, and the blank that balances them.
 use Rattle.std.specs.Prelude.{ℕ, zero, suc, ◌/◌, ◌%◌, Bool, true, false, cond, not, ◌&&◌, ◌||◌, List, [], ◌∷◌, ℤ, pos, negsuc, neg_ℤ, Some, None, Option, ◌==◌, nat_le, unsigned_abs}
+use Rattle.std.specs.List.{list_any}
 use Rattle.matching.specs.Sums.{sum_of_ints}
 use Rattle.weights.specs.Weights.{plain_weight, purchase_weight, draw_weight, weight_in}
 use Rattle.booking.specs.declared.posting.Posting.{Posting}
@@ -47,8 +48,7 @@ is_unfilled (Bought key units serial) = false
 is_unfilled (Drew draw) = false
 
 abbrev pub has_blank : List Entry → Bool
-has_blank [] = false
-has_blank (e ∷ es) = is_unfilled e.kind || has_blank es
+has_blank es = list_any (λ e. is_unfilled e.kind) es
 
 -- a blank becomes an amount of a commodity; no other entry changes
 abbrev pub filled_with : ℤ → ℕ → EntryKind → EntryKind

@@ -1,15 +1,12 @@
 // What a draft comes to: the open lots after it, and its entries. Postings are booked one after another,
 // each upon the lots that the one before left; the first that is refused ends it.
-ghost use Rattle.std.specs.Prelude.{◌≡◌, ◌+◌, ◌≤◌, true, length};
+ghost use Rattle.std.specs.Prelude.{◌≡◌, ◌+◌, ◌≤◌, ◌<◌, ◌∷◌, [], ◌++◌, true, length};
 ghost use Rattle.std.specs.List.{list_all};
 ghost use Rattle.lots.specs.Rows.{in_range};
 ghost use Rattle.stock.specs.Promises.{map_ok};
-ghost use Rattle.stock.specs.Tables.{last_serial};
-ghost use Rattle.stock.specs.View.{table_of};
-ghost use Rattle.booking.specs.Postings.{lot_date};
-ghost use Rattle.booking.specs.Ranges.{posting_in_range};
-ghost use Rattle.booking.specs.Stages.{book_purchase, book_reduction, book_kind, book_posting, Grows};
-ghost use Rattle.booking.specs.View.{booked_of};
+ghost use Rattle.booking.specs.Postings.{entry, draw_entries, lot_date};
+ghost use Rattle.booking.specs.Ranges.{posting_in_range, entry_kind_in_range, draw_in_range};
+ghost use Rattle.booking.specs.Stages.{book_purchase, book_reduction, book_kind, book_posting, Grows, HasRoom, HasSerials};
 
 use crate::entries::Entries;
 use crate::entry::{Entry, EntryKind};
@@ -17,8 +14,9 @@ use crate::posting::{Posting, PostingKind};
 use lots::lot::Lot;
 use lots::policy::Policy;
 use lots::rows::{Key, LotRow};
-use matching::wanted::Wanted;
+use matching::wanted::{Draw, Reduction, Wanted};
 use refusal::{Fault, Refusal};
+use std::marker::Model;
 use stock::table::LotTable;
 
 #[derive(Drop)]
@@ -27,52 +25,68 @@ pub struct Booked {
     pub entries: Entries,
 }
 
-// The date of the braces, else the transaction's.
-fn lot_date(day: u32, given: Option<u32>) -> u32
-    ensures { result ≡ lot_date day given }
-{
-    match given {
-        None => day,
-        Some(date) => date,
-    }
+// Clauses see the lots and the entries as a pair.
+impl Model for Booked {
+    ghost use Rattle.std.specs.Prelude.{List};
+    ghost use Rattle.stock.specs.Tables.{Table};
+    ghost use Rattle.booking.specs.declared.entry.Entry.{Entry};
+
+    ghost Value = { Table × List Entry };
+
+    ghost view = { λ b. (b.lots, b.entries) };
 }
 
 impl Booked {
+    // One entry more.
+    fn enter(&mut self, line: u32, kind: EntryKind)
+        requires room { length self.old.1 < 288 }
+        requires ranged { entry_kind_in_range kind ≡ true }
+        ensures { self.new ≡ (self.old.0, self.old.1 ++ (entry line kind ∷ [])) }
+    {
+        let Ok(()) = self.entries.push(Entry { line, kind }) else {
+            unreachable!()
+        };
+    }
+
+    // One entry more for each draw.
+    fn enter_draws(&mut self, line: u32, draws: &[Draw])
+        requires room { length self.old.1 + length draws.now ≤ 288 }
+        requires ranged { list_all draw_in_range draws.now ≡ true }
+        ensures { self.new ≡ (self.old.0, self.old.1 ++ draw_entries line draws.now) }
+    {
+        for draw in draws {
+            self.enter(line, EntryKind::Drew(*draw));
+        }
+    }
+
     fn purchase(&mut self, line: u32, key: Key, units: u32) -> Result<(), Refusal>
         requires ranged { in_range (record { key = key; units = units; serial = 0 }) ≡ true }
-        requires room { length (booked_of self.old).1 + length (booked_of self.old).0.lots ≤ 286 }
-        requires serials { (booked_of self.old).0.next + 1 ≤ last_serial }
-        ensures defined { map_ok (λ _. booked_of self.new) result ≡ book_purchase line key units (booked_of self.old) }
-        ensures grows { Grows (booked_of self.old) (booked_of self.new) }
+        requires room { HasRoom self.old }
+        requires serials { HasSerials self.old }
+        ensures defined { map_ok (λ _. self.new) result ≡ book_purchase line key units self.old }
+        ensures grows { Grows self.old self.new }
     {
         let Some(bought) = Lot::new(LotRow {
             key,
             units,
             serial: 0,
         }) else {
-            unreachable()
+            unreachable!()
         };
         let serial = self.lots.purchase(&bought)?;
-        self.entries.push(Entry {
-            line,
-            kind: EntryKind::Bought { key, units, serial },
-        });
+        self.enter(line, EntryKind::Bought { key, units, serial });
         Ok(())
     }
 
-    fn reduce<P: Policy>(
-        &mut self,
-        policy: &P,
-        line: u32,
-        wanted: &Wanted,
-        units: u32,
-    ) -> Result<(), Refusal>
-        requires room { length (booked_of self.old).1 + length (booked_of self.old).0.lots ≤ 286 }
-        ensures defined { map_ok (λ _. booked_of self.new) result ≡ book_reduction (P.Policy.order policy.now) line wanted.now units (booked_of self.old) }
-        ensures grows { Grows (booked_of self.old) (booked_of self.new) }
+    fn reduce<P: Policy>(&mut self, line: u32, asked: &Reduction<P>) -> Result<(), Refusal>
+        requires room { HasRoom self.old }
+        ensures defined { map_ok (λ _. self.new) result ≡ book_reduction (P.Policy.order asked.now.policy.now) line asked.now.wanted asked.now.units self.old }
+        ensures grows { Grows self.old self.new }
     {
-        let draws = self.lots.reduce(policy, wanted, units)?;
-        self.entries.push_draws(line, draws.as_slice());
+        // the table tells what it keeps where it is read
+        let _lots = self.lots.lots();
+        let draws = self.lots.reduce(asked)?;
+        self.enter_draws(line, draws.as_slice());
         Ok(())
     }
 
@@ -84,10 +98,10 @@ impl Booked {
         posting: &Posting,
     ) -> Result<(), Refusal>
         requires ranged { posting_in_range posting.now ≡ true }
-        requires room { length (booked_of self.old).1 + length (booked_of self.old).0.lots ≤ 286 }
-        requires serials { (booked_of self.old).0.next + 1 ≤ last_serial }
-        ensures defined { map_ok (λ _. booked_of self.new) result ≡ book_kind (P.Policy.order policy.now) day posting.now.line posting.now.account posting.now.kind (booked_of self.old) }
-        ensures grows { Grows (booked_of self.old) (booked_of self.new) }
+        requires room { HasRoom self.old }
+        requires serials { HasSerials self.old }
+        ensures defined { map_ok (λ _. self.new) result ≡ book_kind (P.Policy.order policy.now) day posting.now.line posting.now.account posting.now.kind self.old }
+        ensures grows { Grows self.old self.new }
     {
         let Posting {
             line,
@@ -96,10 +110,7 @@ impl Booked {
         } = *posting;
         match kind {
             PostingKind::Blank => {
-                self.entries.push(Entry {
-                    line,
-                    kind: EntryKind::Unfilled { account },
-                });
+                self.enter(line, EntryKind::Unfilled { account });
                 Ok(())
             }
             PostingKind::Plain { amount, commodity } => {
@@ -108,9 +119,10 @@ impl Booked {
                     amount,
                     commodity,
                 };
-                self.entries.push(Entry { line, kind });
+                self.enter(line, kind);
                 Ok(())
             }
+            // the date of the braces, else the transaction's
             PostingKind::Purchase {
                 units,
                 commodity,
@@ -121,7 +133,7 @@ impl Booked {
                     account,
                     commodity,
                     cost,
-                    date: lot_date(day, date),
+                    date: date.unwrap_or(day),
                 };
                 self.purchase(line, key, units)
             }
@@ -131,16 +143,19 @@ impl Booked {
                 cost,
                 date,
             } => {
+                let wanted = Wanted {
+                    account,
+                    commodity,
+                    cost,
+                    date,
+                };
                 self.reduce(
-                    policy,
                     line,
-                    &Wanted {
-                        account,
-                        commodity,
-                        cost,
-                        date,
+                    &Reduction {
+                        policy,
+                        wanted,
+                        units,
                     },
-                    units,
                 )
             }
         }
@@ -154,18 +169,16 @@ impl Booked {
         posting: &Posting,
     ) -> Result<(), Fault>
         requires ranged { posting_in_range posting.now ≡ true }
-        requires room { length (booked_of self.old).1 + length (booked_of self.old).0.lots ≤ 286 }
-        requires serials { (booked_of self.old).0.next + 1 ≤ last_serial }
-        ensures defined { map_ok (λ _. booked_of self.new) result ≡ book_posting (P.Policy.order policy.now) day posting.now (booked_of self.old) }
-        ensures grows { Grows (booked_of self.old) (booked_of self.new) }
+        requires room { HasRoom self.old }
+        requires serials { HasSerials self.old }
+        ensures defined { map_ok (λ _. self.new) result ≡ book_posting (P.Policy.order policy.now) day posting.now self.old }
+        ensures grows { Grows self.old self.new }
     {
-        match self.book_kind(policy, day, posting) {
-            Ok(()) => Ok(()),
-            Err(refusal) => Err(Fault {
+        self.book_kind(policy, day, posting)
+            .map_err(|refusal| Fault {
                 refusal,
                 line: posting.line,
                 place: 0,
-            }),
-        }
+            })
     }
 }

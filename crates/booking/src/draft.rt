@@ -1,12 +1,10 @@
-// Booking a whole draft.
+// A draft, and booking one whole.
 ghost use Rattle.std.specs.Prelude.{◌≡◌, ◌+◌, ◌≤◌, true, length, IfOk};
 ghost use Rattle.std.specs.List.{list_all};
 ghost use Rattle.stock.specs.Promises.{map_ok};
 ghost use Rattle.stock.specs.Tables.{last_serial};
-ghost use Rattle.stock.specs.View.{table_of};
 ghost use Rattle.booking.specs.Ranges.{posting_in_range};
 ghost use Rattle.booking.specs.Stages.{book_postings, book_draft};
-ghost use Rattle.booking.specs.View.{postings_of, booked_of};
 
 use crate::booked::Booked;
 use crate::entries::Entries;
@@ -15,6 +13,17 @@ use crate::postings::Postings;
 use lots::policy::Policy;
 use refusal::Fault;
 use stock::table::LotTable;
+use values::flag::Flag;
+
+// A transaction that is begun and neither settled nor torn.
+#[derive(Drop)]
+pub struct Draft {
+    // the source number of its beginning
+    pub line: u32,
+    pub date: u32,
+    pub flag: Flag,
+    pub postings: Postings,
+}
 
 impl Booked {
     // Each posting upon the lots that the one before left.
@@ -26,10 +35,10 @@ impl Booked {
     ) -> Result<(), Fault>
         requires few { length postings.now ≤ 16 }
         requires ranged { list_all posting_in_range postings.now ≡ true }
-        requires room { length (booked_of self.old).1 + length (booked_of self.old).0.lots ≤ 256 }
-        requires serials { (booked_of self.old).0.next + 288 ≤ last_serial }
-        ensures defined { map_ok (λ _. booked_of self.new) result ≡ book_postings (P.Policy.order policy.now) day (booked_of self.old) postings.now }
-        ensures serials { (booked_of self.new).0.next + length (booked_of self.old).1 ≤ (booked_of self.old).0.next + length (booked_of self.new).1 }
+        requires room { length self.old.1 + length self.old.0.lots ≤ 256 }
+        requires serials { self.old.0.next + 288 ≤ last_serial }
+        ensures defined { map_ok (λ _. self.new) result ≡ book_postings (P.Policy.order policy.now) day self.old postings.now }
+        ensures serials { self.new.0.next + length self.old.1 ≤ self.old.0.next + length self.new.1 }
     {
         for posting in postings {
             self.book_posting(policy, day, posting)?;
@@ -46,9 +55,9 @@ pub fn book<P: Policy>(
     day: u32,
     postings: &Postings,
 ) -> Result<Booked, Fault>
-    requires { (table_of lots.now).next + 288 ≤ last_serial }
-    ensures defined { map_ok booked_of result ≡ book_draft (P.Policy.order policy.now) day (table_of lots.now) (postings_of postings.now) }
-    ensures serials { IfOk result (λ b. (booked_of b).0.next ≤ (table_of lots.now).next + length (booked_of b).1) }
+    requires { lots.now.next + 288 ≤ last_serial }
+    ensures defined { result ≡ book_draft (P.Policy.order policy.now) day lots.now postings.now }
+    ensures serials { IfOk result (λ b. b.0.next ≤ lots.now.next + length b.1) }
 {
     let mut booked = Booked {
         lots: lots.duplicate(),

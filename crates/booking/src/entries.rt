@@ -1,22 +1,83 @@
 // The entries of a draft, each within the range of a row. A draft of 16 postings upon 256 lots gives at most 288:
 // with each posting, entries and open lots together grow by at most 2.
-ghost use Rattle.std.specs.Prelude.{◌≡◌, true};
-ghost use Rattle.std.specs.List.{list_all};
-ghost use Rattle.bounded.specs.Items.{items};
+ghost use Rattle.std.specs.Prelude.{◌≡◌};
 ghost use Rattle.booking.specs.Ranges.{entry_in_range};
+ghost use Rattle.booking.specs.Rows.{rows_of};
+ghost use Rattle.booking.specs.Weighing.{blank_account, fill};
 
-use crate::entry::Entry;
+use crate::entry::{Entry, EntryKind, Transaction};
+use crate::ranged::{Ranged, RangedList};
 use bounded::list::Bounded;
-
-pub mod calls;
-pub mod filling;
-pub mod rows;
+use record::rows::{Row, RowKind};
 
 // The most entries of a draft.
 pub const MOST_ENTRIES: usize = 288;
 
-#[derive(Drop)]
-pub struct Entries {
-    list: Bounded<Entry, MOST_ENTRIES>,
-    ghost ranges: { list_all entry_in_range (items list) ≡ true },
+pub type Entries = RangedList<Entry, MOST_ENTRIES>;
+
+// At most as many rows as there are entries.
+pub type Rows = Bounded<Row, MOST_ENTRIES>;
+
+impl Ranged for Entry {
+    ghost in_range = { entry_in_range };
+
+    fn filler() -> Entry {
+        Entry {
+            line: 0,
+            kind: EntryKind::Unfilled { account: 0 },
+        }
+    }
+}
+
+// The account of the first blank.
+pub fn blank_account(entries: &[Entry]) -> Option<u16>
+    ensures { result ≡ blank_account entries.now }
+{
+    for entry in entries {
+        if let EntryKind::Unfilled { account } = entry.kind {
+            return Some(account);
+        }
+    }
+    None
+}
+
+impl Entries {
+    // The first blank becomes an amount of a commodity; no other entry changes.
+    pub fn fill_blank(&mut self, amount: i32, commodity: u8)
+        ensures { self.new ≡ fill amount commodity self.old }
+    {
+        let entries = self.as_slice();
+        if let Some(place) = entries.iter().position(|entry| entry.kind.is_unfilled()) {
+            let Entry { line, kind } = entries[place];
+            self.put(
+                place,
+                Entry {
+                    line,
+                    kind: kind.filled_with(amount, commodity),
+                },
+            );
+        }
+    }
+
+    // One row for each entry, in order.
+    pub fn rows(&self, transaction: &Transaction) -> Rows
+        ensures { result ≡ rows_of transaction.now self.now }
+    {
+        let mut rows = Bounded::new(Row {
+            line: 0,
+            transaction: 0,
+            date: 0,
+            account: 0,
+            commodity: 0,
+            kind: RowKind::Plain,
+            units: 0,
+            flag: transaction.flag,
+        });
+        for entry in self.as_slice() {
+            let Ok(()) = rows.push(entry.row(transaction)) else {
+                unreachable!()
+            };
+        }
+        rows
+    }
 }

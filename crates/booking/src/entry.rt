@@ -10,7 +10,7 @@ use record::rows::{LotFields, Row, RowKind};
 use values::flag::Flag;
 
 // A blank is unfilled until the whole draft is weighed. A purchase bears the serial of the lot that its units came to.
-#[derive(Clone, Copy)]
+#[derive(Clone, Copy, PartialEq, Eq, Debug)]
 pub enum EntryKind {
     PlainAmount {
         account: u16,
@@ -34,7 +34,7 @@ pub enum EntryKind {
 }
 
 // An entry with the source number of its posting.
-#[derive(Clone, Copy)]
+#[derive(Clone, Copy, PartialEq, Eq, Debug)]
 pub struct Entry {
     pub line: u32,
     pub kind: EntryKind,
@@ -52,10 +52,7 @@ impl EntryKind {
     pub fn is_unfilled(&self) -> bool
         ensures { result ≡ is_unfilled self.now }
     {
-        match *self {
-            EntryKind::Unfilled { account: _ } => true,
-            _ => false,
-        }
+        matches!(self, EntryKind::Unfilled { .. })
     }
 
     // A blank with its amount; any other entry as it is.

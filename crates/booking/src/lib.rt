@@ -7,3 +7,4 @@ pub mod entries;
 pub mod entry;
 pub mod posting;
 pub mod postings;
+pub mod ranged;

@@ -13,7 +13,8 @@ use Rattle.booking.specs.declared.posting.PostingKind.{PostingKind}
 use Rattle.booking.specs.declared.posting.PostingKind.TheVariants.{Blank, Plain, Purchase, Reduction}
 use Rattle.booking.specs.declared.entry.Entry.{Entry}
 use Rattle.booking.specs.Postings.{table_after_posting}
-use Rattle.books.specs.States.{Draft, State}
+use Rattle.booking.specs.declared.draft.Draft.{Draft}
+use Rattle.books.specs.States.{State}
 use Rattle.books.specs.Calls.{declaring, opening, asserting, closing, beginning, posting, settling, tearing, writing_header, AmountGiven, BracesGiven, CostGiven}
 use Rattle.books.specs.Conditions.{no_such_draft}
 use Rattle.books.specs.Refusals.{Test, tests_at, fault_of, first_fault_met, if_given, lots_tests, lots_tests_of_all, whole_draft_tests, draft_entries, draft_tests, amount_tests, posting_tests, tests, refusal}

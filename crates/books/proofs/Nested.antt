@@ -15,7 +15,8 @@ use Rattle.booking.specs.declared.posting.PostingKind.TheVariants.{Blank, Plain,
 use Rattle.booking.specs.Postings.{purchase_key, wanted_lots, table_after_posting, kind_refusal, posting_refusal}
 use Rattle.booking.specs.Booking.{at_line, or_else, first_fault}
 use Rattle.booking.specs.Balances.{first_met}
-use Rattle.books.specs.States.{Draft, State}
+use Rattle.booking.specs.declared.draft.Draft.{Draft}
+use Rattle.books.specs.States.{State}
 use Rattle.books.specs.Refusals.{Test, tests_at, fault_of, first_fault_met, lots_tests, lots_tests_of_all, whole_draft_tests, draft_entries, draft_tests}
 
 pub first_append : (xs ys : List Test) → first_fault_met (xs ++ ys) ≡ or_else (first_fault_met xs) (first_fault_met ys)

@@ -9,7 +9,8 @@ use Rattle.lots.specs.Orders.{Order}
 use Rattle.booking.specs.declared.posting.Posting.{Posting}
 use Rattle.booking.specs.Booking.{fault_at}
 use Rattle.books.specs.declared.outcome.Outcome.TheVariants.{Begun, Done}
-use Rattle.books.specs.States.{Draft, State}
+use Rattle.booking.specs.declared.draft.Draft.{Draft}
+use Rattle.books.specs.States.{State}
 use Rattle.books.specs.Calls.{beginning, posting, settling, tearing, AmountGiven}
 use Rattle.books.specs.Conditions.{no_such_draft}
 use Rattle.books.specs.Refusals.{refusal}

@@ -15,7 +15,8 @@ use Rattle.booking.specs.Balances.{balances_after}
 use Rattle.books.specs.declared.outcome.Outcome.{Outcome}
 use Rattle.books.specs.declared.outcome.Outcome.TheVariants.{Declared, Opened, Begun, Settled, Done}
 use Rattle.books.specs.declared.account.Account.{Account}
-use Rattle.books.specs.States.{Names, Books, Draft, State}
+use Rattle.booking.specs.declared.draft.Draft.{Draft}
+use Rattle.books.specs.States.{Names, Books, State}
 use Rattle.books.specs.Calls.{Call, declaring, opening, asserting, closing, beginning, posting, settling, tearing, writing_header, CostGiven, BracesGiven, AmountGiven}
 use Rattle.books.specs.Lookups.{commodity_number, open_account, number_or_0, account_at}
 

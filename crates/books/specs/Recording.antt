@@ -7,7 +7,8 @@ use Rattle.record.specs.declared.rows.Row.{Row}
 use Rattle.record.specs.Layout.{header_after, record_after}
 use Rattle.booking.specs.declared.entry.Transaction.{Transaction}
 use Rattle.booking.specs.Rows.{rows_of}
-use Rattle.books.specs.States.{Draft, State}
+use Rattle.booking.specs.declared.draft.Draft.{Draft}
+use Rattle.books.specs.States.{State}
 use Rattle.books.specs.Calls.{Call, declaring, opening, asserting, closing, beginning, posting, settling, tearing, writing_header}
 use Rattle.books.specs.Refusals.{refusal}
 use Rattle.books.specs.Changes.{settled_entries, after_settling}

@@ -17,7 +17,8 @@ use Rattle.booking.specs.Postings.{purchase_key, wanted_lots, table_after_postin
 use Rattle.booking.specs.Booking.{entries_of, fault_at}
 use Rattle.booking.specs.Weighing.{blank_account}
 use Rattle.booking.specs.Balances.{weighing_tests}
-use Rattle.books.specs.States.{Draft, State}
+use Rattle.booking.specs.declared.draft.Draft.{Draft}
+use Rattle.books.specs.States.{State}
 use Rattle.books.specs.Calls.{Call, declaring, opening, asserting, closing, beginning, posting, settling, tearing, writing_header, CostGiven, BracesGiven, AmountGiven}
 use Rattle.books.specs.Lookups.{own_of}
 use Rattle.books.specs.Conditions.{draft_under_way, no_such_draft, bad_date, bad_account_name, bad_commodity_name, bad_number, has_minus, goes_back, declared_already, not_declared, opened_before, not_open, none_under, not_the_own_commodity, too_many_postings, holds_a_blank, braces_without_use, balance_differs, not_empty, commodities_full, accounts_full, record_too_short, too_many_rows}

@@ -1,8 +1,7 @@
 -- The ledger as lists and numbers.
 use Rattle.std.specs.Prelude.{ℕ, List, [], ℤ, None, Option}
-use Rattle.values.specs.declared.flag.Flag.{Flag}
 use Rattle.stock.specs.Tables.{Table, no_lots}
-use Rattle.booking.specs.declared.posting.Posting.{Posting}
+use Rattle.booking.specs.declared.draft.Draft.{Draft}
 use Rattle.booking.specs.Balances.{no_balances}
 use Rattle.books.specs.declared.account.Account.{Account}
 
@@ -15,13 +14,6 @@ pub record Names : Type 0 where
 pub record Books : Type 0 where
   pub balances : List ℤ
   pub table : Table
-
--- a transaction that is begun: the source number of its beginning, its date, its flag and its postings
-pub record Draft : Type 0 where
-  pub line : ℕ
-  pub date : ℕ
-  pub flag : Flag
-  pub postings : List Posting
 
 -- the draft under way or none, the last accepted date and rank, how many transactions are settled and rows written
 pub record State : Type 0 where

@@ -1,5 +1,4 @@
-// What accounts hold, asked of the tables of a ledger: plain balances and the units of open lots.
+// What accounts hold: the plain balances and the open lots, and what is asked of both.
 #![tactic(auto)]
 
-pub mod account;
-pub mod under;
+pub mod held;

@@ -17,7 +17,8 @@ use Rattle.booking.specs.declared.posting.PostingKind.{PostingKind}
 use Rattle.booking.specs.declared.posting.PostingKind.TheVariants.{Blank, Plain, Purchase, Reduction}
 use Rattle.booking.specs.Postings.{wanted_lots, table_after_posting, draw_entries, entries_of_kind, entries_of_posting}
 use Rattle.booking.specs.Booking.{entries_of}
-use Rattle.books.specs.States.{Names, Draft, State}
+use Rattle.booking.specs.declared.draft.Draft.{Draft}
+use Rattle.books.specs.States.{Names, State}
 use Rattle.books.specs.Calls.{CostGiven, BracesGiven, AmountGiven}
 use Rattle.books.specs.Lookups.{commodity_number, open_account, number_or_0}
 use Rattle.books.specs.Conditions.{bad_number, not_declared, not_open, braces_without_use}

@@ -14,7 +14,8 @@ use Rattle.record.specs.Layout.{header_length, first_free, header_bytes, rows_by
 use Rattle.booking.specs.Booking.{at_line, first_fault, fault_at}
 use Rattle.booking.specs.Balances.{first_met}
 use Rattle.booking.specs.Rows.{row_of, rows_of}
-use Rattle.books.specs.States.{Draft, State, empty_ledger}
+use Rattle.booking.specs.declared.draft.Draft.{Draft}
+use Rattle.books.specs.States.{State, empty_ledger}
 use Rattle.books.specs.Calls.{Call, declaring, opening, asserting, closing, beginning, posting, settling, tearing, writing_header}
 use Rattle.books.specs.Conditions.{no_such_draft, record_too_short}
 use Rattle.books.specs.Refusals.{first_fault_met, if_given, draft_entries, whole_draft_tests, draft_tests, refusal}

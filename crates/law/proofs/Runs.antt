@@ -21,7 +21,8 @@ use Rattle.booking.specs.Booking.{entries_of, at_line, or_else, first_fault, fau
 use Rattle.booking.specs.Weighing.{kind_weight, weight_sum, unbalanced_in, is_empty, has_blank, blank_account, blank_cannot_be_filled, complete}
 use Rattle.booking.specs.Balances.{first_met}
 use Rattle.books.specs.declared.outcome.Outcome.{Outcome}
-use Rattle.books.specs.States.{Books, Draft, State, empty_ledger}
+use Rattle.booking.specs.declared.draft.Draft.{Draft}
+use Rattle.books.specs.States.{Books, State, empty_ledger}
 use Rattle.books.specs.Calls.{Call, declaring, opening, asserting, closing, beginning, posting, settling, tearing, writing_header, AmountGiven}
 use Rattle.books.specs.Lookups.{own_of}
 use Rattle.books.specs.Conditions.{no_such_draft, bad_commodity_name, bad_account_name, declared_already, not_declared, opened_before, commodities_full, accounts_full}

@@ -16,7 +16,8 @@ use Rattle.booking.specs.Postings.{purchase_key, table_after_posting}
 use Rattle.booking.specs.Rows.{rows_of}
 use Rattle.books.specs.declared.outcome.Outcome.{Outcome}
 use Rattle.books.specs.declared.outcome.Outcome.TheVariants.{Declared, Opened, Begun, Settled, Done, Refused}
-use Rattle.books.specs.States.{Names, Draft}
+use Rattle.booking.specs.declared.draft.Draft.{Draft}
+use Rattle.books.specs.States.{Names}
 use Rattle.books.specs.Calls.{Call, declaring, opening, asserting, closing, beginning, posting, settling, tearing, writing_header}
 use Rattle.books.specs.Lookups.{open_account, number_or_0}
 use Rattle.books.specs.Changes.{posting_of, new_draft, with_posting, lots_after_draft, settled_entries, with_commodity, with_account, with_account_closed}

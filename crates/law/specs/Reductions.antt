@@ -16,7 +16,7 @@ use Rattle.booking.specs.declared.entry.EntryKind.TheVariants.{PlainAmount, Unfi
 use Rattle.booking.specs.Postings.{wanted_lots, table_after_kind, table_after_posting, entries_of_kind, posting_refusal}
 use Rattle.books.specs.declared.outcome.Outcome.{Outcome}
 use Rattle.books.specs.declared.outcome.Outcome.TheVariants.{Declared, Opened, Begun, Settled, Done, Refused}
-use Rattle.books.specs.States.{Draft}
+use Rattle.booking.specs.declared.draft.Draft.{Draft}
 use Rattle.books.specs.Calls.{Call, declaring, opening, asserting, closing, beginning, posting, settling, tearing, writing_header}
 use Rattle.law.specs.Histories.{History, accepted, after_call}
 

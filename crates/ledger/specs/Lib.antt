@@ -1,4 +1,3 @@
 pub mod Ranks
-pub mod View
 pub mod Answers
 pub mod CallTables

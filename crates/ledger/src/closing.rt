@@ -8,48 +8,33 @@ ghost use Rattle.books.specs.Changes.{with_names, with_account_closed};
 ghost use Rattle.books.specs.Holdings.{holdings_under};
 ghost use Rattle.books.specs.Lookups.{any_under, open_account, number_or_0};
 ghost use Rattle.ledger.specs.CallTables.{asserting_tests, closing_tests};
-ghost use Rattle.books.specs.Steps.{step};
+ghost use Rattle.ledger.specs.Answers.{carried_out};
 ghost use Rattle.books.specs.declared.outcome.Outcome.TheVariants.{Done};
 ghost use Rattle.ledger.specs.Answers.{outcome_of};
-ghost use Rattle.ledger.specs.View.{view};
 
 use crate::Ledger;
 use crate::fault::fault_at;
 use crate::rank::Rank;
-use drafting::checks::{check_account_name, check_commodity_name, check_date, check_number};
-use holdings::account::is_empty_account;
-use holdings::under::holdings_under;
+use drafting::checks::{check_account_name, check_commodity_name, check_date, check_number, refuse_unless};
 use lots::policy::Policy;
 use refusal::{Fault, Refusal};
 
-fn is_zero(difference: i128) -> bool
-    ensures { result ≡ is_zero difference }
-{
-    difference == 0
-}
-
-// How far a sum of holdings is from the asserted amount.
-fn difference(total: i64, amount: i32) -> i128
-    ensures { result ≡ total -ℤ amount }
-{
-    total as i128 - amount as i128
-}
-
+// Whether a sum of holdings is not the asserted amount.
 fn differs(total: i64, amount: i32) -> bool
     ensures { result ≡ not (is_zero (total -ℤ amount)) }
 {
-    !is_zero(difference(total, amount))
+    i128::from(total) - i128::from(amount) != 0
 }
 
 impl<P: Policy> Ledger<P> {
     // What the accounts under a name hold of a commodity; none where no such account was ever opened.
     fn total_under(&self, account: &[u8], commodity: u8) -> Option<i64>
-        ensures { result ≡ (if any_under (view self.now).names account.now then Some (holdings_under (view self.now).books account.now commodity 1 (view self.now).names.accounts) else None) }
+        ensures { result ≡ (if any_under self.now.1.names account.now then Some (holdings_under self.now.1.books account.now commodity 1 self.now.1.names.accounts) else None) }
     {
-        if !self.chart.has_under(account) {
-            return None;
-        }
-        Some(holdings_under(&self.chart, &self.balances, &self.lots, account, commodity))
+        self.chart.has_under(account).then(|| {
+            self.holdings
+                .holdings_under(&self.chart, account, commodity)
+        })
     }
 
     fn check_asserting(
@@ -59,7 +44,7 @@ impl<P: Policy> Ledger<P> {
         amount: i32,
         commodity: &[u8],
     ) -> Result<(), Refusal>
-        ensures { result ≡ unless (first_met (asserting_tests (view self.now) date account.now amount commodity.now)) tt }
+        ensures { result ≡ unless (first_met (asserting_tests self.now.1 date account.now amount commodity.now)) tt }
     {
         self.check_no_draft()?;
         check_date(date)?;
@@ -67,16 +52,14 @@ impl<P: Policy> Ledger<P> {
         check_number(amount)?;
         check_commodity_name(commodity)?;
         self.check_forward(date, Rank::Asserting)?;
-        let Some(number) = self.chart.commodity(commodity) else {
-            return Err(Refusal::CommodityNotDeclared);
-        };
-        let Some(total) = self.total_under(account, number) else {
-            return Err(Refusal::AccountNotOpen);
-        };
-        if differs(total, amount) {
-            return Err(Refusal::BalanceDiffers);
-        }
-        Ok(())
+        let number = self
+            .chart
+            .commodity(commodity)
+            .ok_or(Refusal::CommodityNotDeclared)?;
+        let total = self
+            .total_under(account, number)
+            .ok_or(Refusal::AccountNotOpen)?;
+        refuse_unless(!differs(total, amount), Refusal::BalanceDiffers)
     }
 
     // Holds an amount to what the accounts under the named one hold together.
@@ -88,35 +71,32 @@ impl<P: Policy> Ledger<P> {
         amount: i32,
         commodity: &[u8],
     ) -> Result<(), Fault>
-        ensures defined { (outcome_of (λ _. Done) result, view self.new) ≡ step (P.Policy.order self.old.policy) (view self.old) (asserting source date account.now amount commodity.now) }
-        ensures policy { self.new.policy ≡ self.old.policy }
+        ensures { (outcome_of (λ _. Done) result, self.new) ≡ carried_out P.Policy.order self.old (asserting source date account.now amount commodity.now) }
     {
-        match self.check_asserting(date, account, amount, commodity) {
-            Ok(()) => Ok(self.accept(date, Rank::Asserting)),
-            Err(refusal) => Err(fault_at(source, refusal)),
-        }
+        self.check_asserting(date, account, amount, commodity)
+            .map_err(|refusal| fault_at(source, refusal))?;
+        self.accept(date, Rank::Asserting);
+        Ok(())
     }
 
     // The number of the account, if it may be closed.
     fn check_closing(&self, date: u32, account: &[u8]) -> Result<u16, Refusal>
-        ensures { result ≡ unless (first_met (closing_tests (view self.now) date account.now)) (number_or_0 (open_account (view self.now).names account.now)) }
+        ensures { result ≡ unless (first_met (closing_tests self.now.1 date account.now)) (number_or_0 (open_account self.now.1.names account.now)) }
     {
         self.check_no_draft()?;
         check_date(date)?;
         check_account_name(account)?;
         self.check_forward(date, Rank::Closing)?;
-        let Some(number) = self.chart.open_account(account) else {
-            return Err(Refusal::AccountNotOpen);
-        };
-        if !is_empty_account(&self.balances, &self.lots, number) {
-            return Err(Refusal::AccountNotEmpty);
-        }
+        let number = self
+            .chart
+            .open_account(account)
+            .ok_or(Refusal::AccountNotOpen)?;
+        refuse_unless(self.holdings.is_empty_account(number), Refusal::AccountNotEmpty)?;
         Ok(number)
     }
 
     fn close_account(&mut self, date: u32, number: u16)
-        ensures named { view self.new ≡ with_names (view self.old) (with_account_closed (view self.old).names number) date 3 }
-        ensures policy { self.new.policy ≡ self.old.policy }
+        ensures named { self.new ≡ (self.old.0, with_names self.old.1 (with_account_closed self.old.1.names number) date 3) }
     {
         self.chart.close(number);
         self.accept(date, Rank::Closing);
@@ -124,12 +104,12 @@ impl<P: Policy> Ledger<P> {
 
     // Closes an account that is empty.
     pub(crate) fn close(&mut self, source: u32, date: u32, account: &[u8]) -> Result<(), Fault>
-        ensures defined { (outcome_of (λ _. Done) result, view self.new) ≡ step (P.Policy.order self.old.policy) (view self.old) (closing source date account.now) }
-        ensures policy { self.new.policy ≡ self.old.policy }
+        ensures { (outcome_of (λ _. Done) result, self.new) ≡ carried_out P.Policy.order self.old (closing source date account.now) }
     {
-        match self.check_closing(date, account) {
-            Ok(number) => Ok(self.close_account(date, number)),
-            Err(refusal) => Err(fault_at(source, refusal)),
-        }
+        let number = self
+            .check_closing(date, account)
+            .map_err(|refusal| fault_at(source, refusal))?;
+        self.close_account(date, number);
+        Ok(())
     }
 }

@@ -5,16 +5,15 @@ ghost use Rattle.booking.specs.Stages.{unless};
 ghost use Rattle.books.specs.Calls.{beginning, tearing};
 ghost use Rattle.ledger.specs.CallTables.{beginning_tests};
 ghost use Rattle.books.specs.Changes.{new_draft, with_draft};
-ghost use Rattle.books.specs.Steps.{step};
+ghost use Rattle.ledger.specs.Answers.{carried_out};
 ghost use Rattle.books.specs.declared.outcome.Outcome.TheVariants.{Begun, Done};
-ghost use Rattle.ledger.specs.View.{view};
 ghost use Rattle.ledger.specs.Answers.{outcome_of, outcome_with_slip, GivesBack};
 
 use crate::Ledger;
-use crate::draft::Draft;
 use crate::fault::fault_at;
 use crate::rank::Rank;
 use crate::slip::Slip;
+use booking::draft::Draft;
 use booking::postings::Postings;
 use drafting::checks::check_date;
 use lots::policy::Policy;
@@ -23,7 +22,7 @@ use values::flag::Flag;
 
 impl<P: Policy> Ledger<P> {
     fn check_beginning(&self, date: u32) -> Result<(), Refusal>
-        ensures { result ≡ unless (first_met (beginning_tests (view self.now) date)) tt }
+        ensures { result ≡ unless (first_met (beginning_tests self.now.1 date)) tt }
     {
         self.check_no_draft()?;
         check_date(date)?;
@@ -32,9 +31,8 @@ impl<P: Policy> Ledger<P> {
     }
 
     fn start_draft(&mut self, source: u32, date: u32, flag: Flag) -> Slip
-        ensures slip { result.number ≡ (view self.old).transactions + 1 }
-        ensures drafted { view self.new ≡ with_draft (view self.old) (Some (new_draft source date flag)) }
-        ensures policy { self.new.policy ≡ self.old.policy }
+        ensures slip { result.number ≡ self.old.1.transactions + 1 }
+        ensures drafted { self.new ≡ (self.old.0, with_draft self.old.1 (Some (new_draft source date flag))) }
     {
         self.draft = Some(Draft {
             line: source,
@@ -49,20 +47,17 @@ impl<P: Policy> Ledger<P> {
 
     // Starts an empty draft and hands out its slip.
     pub(crate) fn begin(&mut self, source: u32, date: u32, flag: Flag) -> Result<Slip, Fault>
-        ensures defined { (outcome_of (λ slip. Begun slip.number) result, view self.new) ≡ step (P.Policy.order self.old.policy) (view self.old) (beginning source date flag) }
-        ensures policy { self.new.policy ≡ self.old.policy }
+        ensures { (outcome_of (λ slip. Begun slip.number) result, self.new) ≡ carried_out P.Policy.order self.old (beginning source date flag) }
     {
-        match self.check_beginning(date) {
-            Ok(()) => Ok(self.start_draft(source, date, flag)),
-            Err(refusal) => Err(fault_at(source, refusal)),
-        }
+        self.check_beginning(date)
+            .map_err(|refusal| fault_at(source, refusal))?;
+        Ok(self.start_draft(source, date, flag))
     }
 
     // Throws the draft of a slip away; refused, the slip comes back.
     pub(crate) fn tear(&mut self, slip: Slip) -> Result<(), (Slip, Fault)>
-        ensures defined { (outcome_with_slip (λ _. Done) result, view self.new) ≡ step (P.Policy.order self.old.policy) (view self.old) (tearing slip.number) }
+        ensures { (outcome_with_slip (λ _. Done) result, self.new) ≡ carried_out P.Policy.order self.old (tearing slip.number) }
         ensures slip { GivesBack slip result }
-        ensures policy { self.new.policy ≡ self.old.policy }
     {
         if self.draft.is_none() || slip.number != self.transactions + 1 {
             return Err((slip, fault_at(0, Refusal::NoSuchDraft)));

@@ -2,19 +2,14 @@
 // The calls stay within the crate until the law over whole runs stands on a public call.
 #![tactic(auto)]
 
-ghost use Rattle.std.specs.Prelude.{◌+◌, ◌≤◌};
-ghost use Rattle.record.specs.Layout.{most_rows};
-ghost use Rattle.stock.specs.View.{table_of};
-
-use crate::draft::Draft;
 use crate::rank::Rank;
-use balances::table::Balances;
+use booking::draft::Draft;
 use chart::table::Chart;
-use stock::table::LotTable;
+use holdings::held::Holdings;
+use std::marker::Model;
 
 pub mod closing;
 pub mod dated;
-pub mod draft;
 pub mod drafts;
 mod fault;
 pub mod making;
@@ -23,20 +18,38 @@ pub mod questions;
 pub mod rank;
 pub mod slip;
 
-// Everything is kept in place: no call allocates. Of rows at most 60,000 are ever written; each settled transaction has one
-// at least, and each lot that was opened has one, so that no count runs out of numbers.
+// Everything is kept in place: no call allocates.
 #[derive(Drop)]
 pub struct Ledger<P> {
     policy: P,
     chart: Chart,
-    balances: Balances,
-    lots: LotTable,
+    holdings: Holdings,
     draft: Option<Draft>,
     last_date: u32,
     last_rank: Rank,
     transactions: u32,
     rows: u32,
-    ghost counted: { transactions ≤ rows },
-    ghost bounded: { rows ≤ most_rows },
-    ghost serials: { (table_of lots).next ≤ rows + 1 },
+}
+
+// Clauses see a ledger as its policy and its state. Of rows at most 60,000 are ever written; each settled transaction has one
+// at least, and each lot that was opened has one, so that no count runs out of numbers.
+impl<P> Model for Ledger<P> {
+    ghost use Rattle.std.specs.Prelude.{◌+◌, ◌≤◌};
+    ghost use Rattle.record.specs.Layout.{most_rows};
+    ghost use Rattle.books.specs.States.{State};
+    ghost use Rattle.ledger.specs.Ranks.{rank_number};
+
+    ghost Value = { P × State };
+
+    ghost view = { λ l. (l.policy, record {
+      names = l.chart;
+      books = l.holdings;
+      draft = l.draft;
+      last_date = l.last_date;
+      last_rank = rank_number l.last_rank;
+      transactions = l.transactions;
+      rows = l.rows;
+    }) };
+
+    ghost invariant = { λ l. (l.transactions ≤ l.rows) × ((l.rows ≤ most_rows) × (l.holdings.table.next ≤ l.rows + 1)) };
 }

@@ -8,20 +8,19 @@ ghost use Rattle.values.specs.Names.{is_commodity_name, is_account_name};
 ghost use Rattle.books.specs.Conditions.{bad_commodity_name, not_declared, commodities_full, accounts_full};
 ghost use Rattle.booking.specs.Balances.{first_met};
 ghost use Rattle.booking.specs.Stages.{unless};
-ghost use Rattle.chart.specs.View.{account_added};
+ghost use Rattle.chart.specs.Changes.{account_added};
 ghost use Rattle.books.specs.Changes.{with_names, with_commodity};
 ghost use Rattle.books.specs.Calls.{declaring, opening};
 ghost use Rattle.ledger.specs.CallTables.{given_and, declaring_tests, opening_tests};
-ghost use Rattle.books.specs.Steps.{step};
+ghost use Rattle.ledger.specs.Answers.{carried_out};
 ghost use Rattle.books.specs.declared.outcome.Outcome.TheVariants.{Declared, Opened};
-ghost use Rattle.ledger.specs.View.{view};
 ghost use Rattle.ledger.specs.Answers.{outcome_of};
 
 use crate::Ledger;
 use crate::fault::fault_at;
 use crate::rank::Rank;
 use chart::table::{MOST_ACCOUNTS, MOST_COMMODITIES};
-use drafting::checks::{check_account_name, check_commodity_name, check_date};
+use drafting::checks::{check_account_name, check_commodity_name, check_date, refuse_unless};
 use lots::policy::Policy;
 use refusal::{Fault, Refusal};
 
@@ -29,37 +28,31 @@ use refusal::{Fault, Refusal};
 fn check_own_name(own: Option<&[u8]>) -> Result<(), Refusal>
     ensures { Checks BadCommodityName (given_and bad_commodity_name (option_map (λ c. c.now) own.entry)) result }
 {
-    match own {
-        None => Ok(()),
-        Some(name) => check_commodity_name(name),
-    }
+    own.map_or(Ok(()), check_commodity_name)
 }
 
 impl<P: Policy> Ledger<P> {
     fn check_declaring(&self, date: u32, name: &[u8]) -> Result<(), Refusal>
-        ensures checked { result ≡ unless (first_met (declaring_tests (view self.now) date name.now)) tt }
-        ensures allowed { OnOk result ((is_commodity_name name.now ≡ true) × (commodities_full (view self.now).names ≡ false)) }
+        ensures checked { result ≡ unless (first_met (declaring_tests self.now.1 date name.now)) tt }
+        ensures allowed { OnOk result ((is_commodity_name name.now ≡ true) × (commodities_full self.now.1.names ≡ false)) }
     {
         self.check_no_draft()?;
         check_date(date)?;
         check_commodity_name(name)?;
         self.check_forward(date, Rank::Naming)?;
-        if self.chart.commodity(name).is_some() {
-            return Err(Refusal::CommodityDeclaredAlready);
-        }
-        if self.chart.commodities() >= MOST_COMMODITIES {
-            return Err(Refusal::BooksFull);
-        }
-        Ok(())
+        refuse_unless(
+            self.chart.commodity(name).is_none(),
+            Refusal::CommodityDeclaredAlready,
+        )?;
+        refuse_unless(self.chart.commodities() < MOST_COMMODITIES, Refusal::BooksFull)
     }
 
     // One commodity more, where that is allowed.
     fn add_commodity(&mut self, date: u32, name: &[u8]) -> u8
         requires name { is_commodity_name name.now ≡ true }
-        requires room { commodities_full (view self.old).names ≡ false }
-        ensures number { result ≡ length (view self.old).names.commodities + 1 }
-        ensures named { view self.new ≡ with_names (view self.old) (with_commodity (view self.old).names name.now) date 0 }
-        ensures policy { self.new.policy ≡ self.old.policy }
+        requires room { commodities_full self.old.1.names ≡ false }
+        ensures number { result ≡ length self.old.1.names.commodities + 1 }
+        ensures named { self.new ≡ (self.old.0, with_names self.old.1 (with_commodity self.old.1.names name.now) date 0) }
     {
         let number = self.chart.commodities() as u8 + 1;
         self.chart.declare(name);
@@ -69,25 +62,24 @@ impl<P: Policy> Ledger<P> {
 
     // Adds a commodity and answers its number.
     pub(crate) fn declare(&mut self, source: u32, date: u32, name: &[u8]) -> Result<u8, Fault>
-        ensures defined { (outcome_of Declared result, view self.new) ≡ step (P.Policy.order self.old.policy) (view self.old) (declaring source date name.now) }
-        ensures policy { self.new.policy ≡ self.old.policy }
+        ensures { (outcome_of Declared result, self.new) ≡ carried_out P.Policy.order self.old (declaring source date name.now) }
     {
-        match self.check_declaring(date, name) {
-            Ok(()) => Ok(self.add_commodity(date, name)),
-            Err(refusal) => Err(fault_at(source, refusal)),
-        }
+        self.check_declaring(date, name)
+            .map_err(|refusal| fault_at(source, refusal))?;
+        Ok(self.add_commodity(date, name))
     }
 
     // The number of the own commodity that is named, if one is.
     fn own_commodity(&self, own: Option<&[u8]>) -> Result<Option<u8>, Refusal>
-        ensures { Finds CommodityNotDeclared (given_and (not_declared (view self.now).names) (option_map (λ c. c.now) own.entry)) (option_map (λ c. number_or_0 (commodity_number (view self.now).names c.now)) own.entry) result }
+        ensures { Finds CommodityNotDeclared (given_and (not_declared self.now.1.names) (option_map (λ c. c.now) own.entry)) (option_map (λ c. number_or_0 (commodity_number self.now.1.names c.now)) own.entry) result }
     {
         let Some(name) = own else {
             return Ok(None);
         };
-        let Some(number) = self.chart.commodity(name) else {
-            return Err(Refusal::CommodityNotDeclared);
-        };
+        let number = self
+            .chart
+            .commodity(name)
+            .ok_or(Refusal::CommodityNotDeclared)?;
         Ok(Some(number))
     }
 
@@ -97,8 +89,8 @@ impl<P: Policy> Ledger<P> {
         name: &[u8],
         own: Option<&[u8]>,
     ) -> Result<Option<u8>, Refusal>
-        ensures checked { result ≡ unless (first_met (opening_tests (view self.now) date name.now (option_map (λ c. c.now) own.entry))) (option_map (λ c. number_or_0 (commodity_number (view self.now).names c.now)) own.entry) }
-        ensures allowed { OnOk result ((is_account_name name.now ≡ true) × (accounts_full (view self.now).names ≡ false)) }
+        ensures checked { result ≡ unless (first_met (opening_tests self.now.1 date name.now (option_map (λ c. c.now) own.entry))) (option_map (λ c. number_or_0 (commodity_number self.now.1.names c.now)) own.entry) }
+        ensures allowed { OnOk result ((is_account_name name.now ≡ true) × (accounts_full self.now.1.names ≡ false)) }
     {
         self.check_no_draft()?;
         check_date(date)?;
@@ -106,22 +98,17 @@ impl<P: Policy> Ledger<P> {
         check_own_name(own)?;
         self.check_forward(date, Rank::Naming)?;
         let own = self.own_commodity(own)?;
-        if self.chart.account(name).is_some() {
-            return Err(Refusal::AccountOpenedBefore);
-        }
-        if self.chart.accounts() >= MOST_ACCOUNTS {
-            return Err(Refusal::BooksFull);
-        }
+        refuse_unless(self.chart.account(name).is_none(), Refusal::AccountOpenedBefore)?;
+        refuse_unless(self.chart.accounts() < MOST_ACCOUNTS, Refusal::BooksFull)?;
         Ok(own)
     }
 
     // One account more, where that is allowed.
     fn add_account(&mut self, date: u32, name: &[u8], own: Option<u8>) -> u16
         requires name { is_account_name name.now ≡ true }
-        requires room { accounts_full (view self.old).names ≡ false }
-        ensures number { result ≡ length (view self.old).names.accounts + 1 }
-        ensures named { view self.new ≡ with_names (view self.old) (account_added name.now own (view self.old).names) date 0 }
-        ensures policy { self.new.policy ≡ self.old.policy }
+        requires room { accounts_full self.old.1.names ≡ false }
+        ensures number { result ≡ length self.old.1.names.accounts + 1 }
+        ensures named { self.new ≡ (self.old.0, with_names self.old.1 (account_added name.now own self.old.1.names) date 0) }
     {
         let number = self.chart.accounts() as u16 + 1;
         self.chart.open(name, own);
@@ -137,12 +124,11 @@ impl<P: Policy> Ledger<P> {
         name: &[u8],
         own: Option<&[u8]>,
     ) -> Result<u16, Fault>
-        ensures defined { (outcome_of Opened result, view self.new) ≡ step (P.Policy.order self.old.policy) (view self.old) (opening source date name.now (option_map (λ c. c.now) own.entry)) }
-        ensures policy { self.new.policy ≡ self.old.policy }
+        ensures { (outcome_of Opened result, self.new) ≡ carried_out P.Policy.order self.old (opening source date name.now (option_map (λ c. c.now) own.entry)) }
     {
-        match self.check_opening(date, name, own) {
-            Ok(own) => Ok(self.add_account(date, name, own)),
-            Err(refusal) => Err(fault_at(source, refusal)),
-        }
+        let own = self
+            .check_opening(date, name, own)
+            .map_err(|refusal| fault_at(source, refusal))?;
+        Ok(self.add_account(date, name, own))
     }
 }

@@ -2,12 +2,10 @@
 ghost use Rattle.std.specs.Prelude.{◌≡◌, not};
 ghost use Rattle.books.specs.Conditions.{nothing_there};
 ghost use Rattle.books.specs.Questions.{holding_of, plain_balance_of, counts_of, lot_of};
-ghost use Rattle.ledger.specs.View.{view};
 
 use crate::Ledger;
 use crate::fault::fault_at;
 use books::outcome::Counts;
-use holdings::account::holding;
 use lots::policy::Policy;
 use lots::rows::LotRow;
 use refusal::{Fault, Refusal};
@@ -15,7 +13,7 @@ use refusal::{Fault, Refusal};
 impl<P: Policy> Ledger<P> {
     // Whether an account and a commodity of these numbers are there; both are counted from 1.
     fn has(&self, account: u16, commodity: u8) -> bool
-        ensures { result ≡ not (nothing_there (view self.now).names account commodity) }
+        ensures { result ≡ not (nothing_there self.now.1.names account commodity) }
     {
         let opened = 1 <= account && account as usize <= self.chart.accounts();
         opened && 1 <= commodity && commodity as usize <= self.chart.commodities()
@@ -23,41 +21,42 @@ impl<P: Policy> Ledger<P> {
 
     // The plain balance and the units of the open lots.
     pub(crate) fn holding(&self, account: u16, commodity: u8) -> Result<i64, Fault>
-        ensures { result ≡ holding_of (view self.now) account commodity }
+        ensures { result ≡ holding_of self.now.1 account commodity }
     {
         if !self.has(account, commodity) {
             return Err(fault_at(0, Refusal::NothingThere));
         }
-        Ok(holding(&self.balances, &self.lots, account, commodity))
+        Ok(self.holdings.holding(account, commodity))
     }
 
     pub(crate) fn plain_balance(&self, account: u16, commodity: u8) -> Result<i64, Fault>
-        ensures { result ≡ plain_balance_of (view self.now) account commodity }
+        ensures { result ≡ plain_balance_of self.now.1 account commodity }
     {
         if !self.has(account, commodity) {
             return Err(fault_at(0, Refusal::NothingThere));
         }
-        Ok(self.balances.balance(account, commodity))
+        Ok(self.holdings.plain_balance(account, commodity))
     }
 
     pub(crate) fn counts(&self) -> Counts
-        ensures { result ≡ counts_of (view self.now) }
+        ensures { result ≡ counts_of self.now.1 }
     {
         Counts {
             commodities: self.chart.commodities(),
             accounts: self.chart.accounts(),
-            lots: self.lots.lots().len(),
+            lots: self.holdings.lots().lots().len(),
             transactions: self.transactions,
             rows: self.rows,
-            next: self.lots.next_serial(),
+            next: self.holdings.lots().next_serial(),
         }
     }
 
     // The open lot that bears a serial.
     pub(crate) fn lot(&self, serial: u32) -> Result<LotRow, Fault>
-        ensures { result ≡ lot_of (view self.now) serial }
+        ensures { result ≡ lot_of self.now.1 serial }
     {
-        self.lots
+        self.holdings
+            .lots()
             .lot(serial)
             .ok_or(fault_at(0, Refusal::NothingThere))
     }

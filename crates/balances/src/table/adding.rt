@@ -1,5 +1,5 @@
 // Adding amounts to balances that are not settled yet, and their range.
-ghost use Rattle.std.specs.Prelude.{◌≡◌, ℕ, ◌+◌, ◌-◌, ◌*◌, ◌≤◌, length, nat_le, unsigned_abs};
+ghost use Rattle.std.specs.Prelude.{◌≡◌, ℕ, ◌+◌, ◌-◌, ◌*◌, ◌≤◌, length};
 ghost use Rattle.booking.specs.Balances.{balance_place, add_amount, add_kind, balances_after, largest_balance, all_within};
 ghost use Rattle.balances.specs.Bounds.{Near};
 
@@ -12,7 +12,7 @@ const COMMODITIES: usize = 16;
 const LARGEST: u64 = 6_100_000_000_000;
 
 // Where the balance of an account in a commodity stands; both are counted from 1.
-pub(crate) fn place(account: u16, commodity: u8) -> usize
+pub(super) fn place(account: u16, commodity: u8) -> usize
     ensures { result ≡ balance_place account commodity }
 {
     COMMODITIES * (account as usize).saturating_sub(1) + (commodity as usize).saturating_sub(1)
@@ -24,9 +24,8 @@ fn add_amount(places: &mut [i64; PLACES], account: u16, commodity: u8, amount: i
     ensures added { places.new ≡ add_amount places.old account commodity amount }
     ensures near { (n : ℕ) → Near places.old n → Near places.new (n + 1) }
 {
-    let at = place(account, commodity);
-    if at < PLACES {
-        places[at] += i64::from(amount);
+    if let Some(balance) = places.get_mut(place(account, commodity)) {
+        *balance += i64::from(amount);
     }
 }
 
@@ -41,22 +40,18 @@ fn add_kind(places: &mut [i64; PLACES], kind: &EntryKind)
             account,
             amount,
             commodity,
-        } => {
-            add_amount(places, account, commodity, amount);
         }
-        EntryKind::Filled {
+        | EntryKind::Filled {
             account,
             amount,
             commodity,
-        } => {
-            add_amount(places, account, commodity, amount);
-        }
+        } => add_amount(places, account, commodity, amount),
         _ => {}
     }
 }
 
 // The balances after entries, one after another.
-pub(crate) fn add_entries(places: &mut [i64; PLACES], entries: &[Entry])
+pub(super) fn add_entries(places: &mut [i64; PLACES], entries: &[Entry])
     requires few { length entries.now ≤ 288 }
     requires near { Near places.old 0 }
     ensures { places.new ≡ balances_after places.old entries.now }
@@ -66,20 +61,11 @@ pub(crate) fn add_entries(places: &mut [i64; PLACES], entries: &[Entry])
     }
 }
 
-fn is_within(balance: i64) -> bool
-    ensures { result ≡ nat_le (unsigned_abs balance) largest_balance }
-{
-    balance.unsigned_abs() <= LARGEST
-}
-
 // Whether no balance is larger in size than the largest.
-pub(crate) fn all_within(places: &[i64]) -> bool
+pub(super) fn all_within(places: &[i64]) -> bool
     ensures { result ≡ all_within places.now }
 {
-    for balance in places {
-        if !is_within(*balance) {
-            return false;
-        }
-    }
-    true
+    places
+        .iter()
+        .all(|balance| balance.unsigned_abs() <= LARGEST)
 }

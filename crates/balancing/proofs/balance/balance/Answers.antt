@@ -1,6 +1,5 @@
 use Rattle.std.proofs.Common.{◌≡◌, true, false, List, sym, ap, ◌∙◌}
 use Rattle.booking.specs.declared.entry.Entry.{Entry}
-use Rattle.booking.specs.View.{entries_in}
 use Rattle.booking.specs.Weighing.{has_blank, is_empty, weight_sum, unbalanced_in}
 use Rattle.stock.specs.Promises.{map_ok}
 use Rattle.balancing.specs.Summary.{summary, balanced}
@@ -11,8 +10,8 @@ pub returns-then-has_blank : goal.returns-then-has_blank
 returns-then-has_blank c =
     let ps = c.args.postings.now in
     let own = c.args.own in
-    let es = entries_in c.args.entries.now in
-    let fs = entries_in c.fill.new.entries in
+    let es = c.args.entries.now in
+    let fs = c.fill.new.entries in
     let u = c.unbalanced_in-unbalanced.result in
     let some : is_empty ps ≡ false = sym (c.if-is_empty.ensures ∙ empty_is ps) in
     let found : u ≡ summary (weight_sum es) (unbalanced_in es) = c.unbalanced_in-unbalanced.ensures ∙ ap (λ (xs : List Entry). summary (weight_sum xs) (unbalanced_in xs)) c.as_slice.ensures.listed in

@@ -3,7 +3,7 @@ use Rattle.std.proofs.lemmas.List.{at_drop_more, at_drop_all}
 use Rattle.booking.specs.declared.entry.EntryKind.{EntryKind}
 use Rattle.booking.specs.Weighing.{blank_account, account_of_blank}
 use Rattle.booking.proofs.Blanks.{no_entry, account_other}
-use Rattle.booking.proofs.entries.filling.blank_account.Goals as goal
+use Rattle.booking.proofs.entries.blank_account.Goals as goal
 
 pub returns-in-Unfilled : goal.returns-in-Unfilled
 returns-in-Unfilled c =

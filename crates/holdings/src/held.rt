@@ -1,0 +1,147 @@
+// Plain balances and open lots. Clauses see both together as the books of a ledger's state.
+ghost use Rattle.std.specs.Prelude.{◌≡◌, ◌≤◌, pos, None, length, if◌then◌else◌, unsigned_abs};
+ghost use Rattle.matching.specs.Matching.{matches, units_matching};
+ghost use Rattle.values.specs.Names.{lies_under};
+ghost use Rattle.booking.specs.Postings.{wanted_lots};
+ghost use Rattle.books.specs.Holdings.{units_in_lots, plain_balance, holding, holdings_under, no_plain_balance, has_lot, is_empty_account};
+ghost use Rattle.books.specs.States.{empty_ledger};
+ghost use Rattle.holdings.specs.Bounds.{most_in_lots, largest_holding};
+
+use balances::table::Balances;
+use books::account::Account;
+use chart::table::Chart;
+use matching::search::units_matching;
+use matching::wanted::Wanted;
+use std::marker::Model;
+use stock::table::LotTable;
+use values::names::is_under;
+
+// Commodities are counted from 1 up to this.
+const MOST_COMMODITIES: u8 = 16;
+
+#[derive(Drop)]
+pub struct Holdings {
+    balances: Balances,
+    lots: LotTable,
+}
+
+impl Model for Holdings {
+    ghost use Rattle.books.specs.States.{Books};
+
+    ghost Value = { Books };
+
+    ghost view = { λ h. record { balances = h.balances; table = h.lots } };
+}
+
+impl Holdings {
+    // Nothing is held.
+    pub fn new() -> Holdings
+        ensures { result ≡ empty_ledger.books }
+    {
+        Holdings {
+            balances: Balances::new(),
+            lots: LotTable::new(),
+        }
+    }
+
+    pub fn balances(&self) -> &Balances
+        ensures { result.now ≡ self.now.balances }
+    {
+        &self.balances
+    }
+
+    pub fn lots(&self) -> &LotTable
+        ensures { result.now ≡ self.now.table }
+    {
+        &self.lots
+    }
+
+    // The units of an account's open lots of a commodity.
+    fn units_in_lots(&self, account: u16, commodity: u8) -> i64
+        ensures value { result ≡ pos (units_in_lots self.now account commodity) }
+        ensures small { unsigned_abs result ≤ most_in_lots }
+    {
+        let wanted = Wanted {
+            account,
+            commodity,
+            cost: None,
+            date: None,
+        };
+        units_matching(self.lots.lots(), &wanted) as i64
+    }
+
+    // An account's plain balance.
+    pub fn plain_balance(&self, account: u16, commodity: u8) -> i64
+        ensures { result ≡ plain_balance self.now account commodity }
+    {
+        self.balances.balance(account, commodity)
+    }
+
+    // An account's plain balance and the units of its open lots.
+    pub fn holding(&self, account: u16, commodity: u8) -> i64
+        ensures value { result ≡ holding self.now account commodity }
+        ensures small { unsigned_abs result ≤ largest_holding }
+    {
+        self.balances.balance(account, commodity) + self.units_in_lots(account, commodity)
+    }
+
+    // Whether an open lot is the account's.
+    fn has_lot(&self, account: u16) -> bool
+        ensures { result ≡ has_lot self.now account }
+    {
+        self.lots
+            .lots()
+            .iter()
+            .any(|row| row.key.account == account)
+    }
+
+    // Whether the plain balances of an account are 0 in every commodity.
+    fn no_plain_balance(&self, account: u16) -> bool
+        ensures { result ≡ no_plain_balance self.now account 16 }
+    {
+        for commodity in 1..=MOST_COMMODITIES {
+            if self.balances.balance(account, commodity) != 0 {
+                return false;
+            }
+        }
+        true
+    }
+
+    // Whether an account has no open lot and no plain balance but 0.
+    pub fn is_empty_account(&self, account: u16) -> bool
+        ensures { result ≡ is_empty_account self.now account }
+    {
+        !self.has_lot(account) && self.no_plain_balance(account)
+    }
+
+    // The holding of an account of a number if it lies under a name, else 0.
+    fn holding_if_under(&self, account: &Account, number: u16, name: &[u8], commodity: u8) -> i64
+        ensures value { result ≡ (if lies_under account.now.name name.now then holding self.now number commodity else pos 0) }
+        ensures small { unsigned_abs result ≤ largest_holding }
+    {
+        if is_under(account.name.as_slice(), name) {
+            self.holding(number, commodity)
+        } else {
+            0
+        }
+    }
+
+    // The holdings of those of at most 64 accounts, counted from 1, that lie under a name.
+    fn sum_under(&self, accounts: &[Account], name: &[u8], commodity: u8) -> i64
+        requires { length accounts.now ≤ 64 }
+        ensures { result ≡ holdings_under self.now name.now commodity 1 accounts.now }
+    {
+        let mut sum = 0;
+        for (i, account) in accounts.iter().enumerate() {
+            sum += self.holding_if_under(account, i as u16 + 1, name, commodity);
+        }
+        sum
+    }
+
+    // The holdings, in a commodity, of the accounts of a chart that lie under a name.
+    pub fn holdings_under(&self, chart: &Chart, name: &[u8], commodity: u8) -> i64
+        ensures { result ≡ holdings_under self.now name.now commodity 1 chart.now.accounts }
+    {
+        self.sum_under(chart.account_list(), name, commodity)
+    }
+}
