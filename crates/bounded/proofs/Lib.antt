@@ -1,2 +1,1 @@
 pub mod Lists
-pub mod Capacity

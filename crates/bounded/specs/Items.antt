@@ -1,10 +1,6 @@
--- The list that a bounded list stands for.
-use Rattle.std.specs.Prelude.{ℕ, cond, List, [], ◌∷◌, ◌++◌, length, take, Ok, Err, Result, nat_le}
-use Rattle.bounded.specs.declared.list.Bounded.{Bounded}
-use Rattle.bounded.specs.declared.list.calls.Full.{Full}
-
-abbrev pub items : {T : Type 0} {n : ℕ} → Bounded T n → List T
-items b = take b.len b.slots
+-- What a push does to the items of a bounded list.
+use Rattle.std.specs.Prelude.{ℕ, cond, List, [], ◌∷◌, ◌++◌, length, Ok, Err, Result, nat_le}
+use Rattle.bounded.specs.declared.list.Full.{Full}
 
 -- what a push onto at most n items answers, and the items after it
 abbrev pub pushed : {T : Type 0} → ℕ → List T → T → Result (Unit {0}) Full × List T

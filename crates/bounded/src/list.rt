@@ -1,12 +1,91 @@
-// The table itself. Its calls stand in a module of their own, since their contracts cite what the table stands for.
-ghost use Rattle.std.specs.Prelude.{◌≡◌, ℕ, ◌≤◌, length};
+// The list itself. Clauses see it as the list of its items.
+ghost use Rattle.std.specs.Prelude.{◌≡◌, ℕ, ◌<◌, ◌≤◌, [], length, slice_set};
+ghost use Rattle.std.specs.List.{remove};
+ghost use Rattle.bounded.specs.Items.{pushed};
 
-pub mod calls;
+use std::marker::Model;
 
 #[derive(Drop)]
 pub struct Bounded<T, const N: usize> {
     slots: [T; N],
     len: usize,
-    ghost whole: { length slots ≡ N },
-    ghost within: { len ≤ N },
+}
+
+impl<T, const N: usize> Model for Bounded<T, N> {
+    ghost use Rattle.std.specs.Prelude.{◌≡◌, ◌≤◌, List, length, take};
+    ghost use Rattle.std.specs.Coded.{coded_list};
+
+    ghost Value = { List T };
+
+    ghost coded = { coded_list T.code };
+
+    ghost view = { λ b. take b.len b.slots };
+
+    ghost invariant = { λ b. (b.len ≤ N) × (length b.slots ≡ N) };
+}
+
+// A push found no room.
+#[derive(Clone, Copy)]
+pub struct Full;
+
+// Every call is total: one that finds no room or no place says so, or does nothing.
+impl<T: Copy, const N: usize> Bounded<T, N> {
+    // An empty list; its unused places hold the filler.
+    pub fn new(filler: T) -> Self
+        ensures { result ≡ [] }
+    {
+        Bounded {
+            slots: [filler; N],
+            len: 0,
+        }
+    }
+
+    pub fn as_slice(&self) -> &[T]
+        ensures items { result.now ≡ self.now }
+        ensures within { length result.now ≤ N }
+    {
+        let all = &self.slots[..];
+        &all[0..self.len]
+    }
+
+    // Adds an item at the end, unless N are there.
+    pub fn push(&mut self, item: T) -> Result<(), Full>
+        ensures { (result, self.new) ≡ pushed N self.old item }
+    {
+        if self.len >= N {
+            return Err(Full);
+        }
+        self.slots[self.len] = item;
+        self.len += 1;
+        Ok(())
+    }
+
+    // Writes over the item at a place; past the end there is none.
+    pub fn put(&mut self, place: usize, item: T)
+        ensures { self.new ≡ slice_set self.old place item }
+    {
+        if place < self.len {
+            self.slots[place] = item;
+        }
+    }
+
+    // Takes the item at a place out; those behind it close up. Past the end there is none.
+    pub fn remove(&mut self, place: usize)
+        ensures { self.new ≡ remove self.old place }
+    {
+        if place < self.len {
+            self.slots.copy_within(place + 1..self.len, place);
+            self.len -= 1;
+        }
+    }
+
+    // A second list of the same items. It is no `Clone`: that may fail for want of memory, and this cannot.
+    pub fn duplicate(&self) -> Self
+        ensures { result ≡ self.now }
+    {
+        Bounded {
+            slots: self.slots,
+            len: self.len,
+        }
+    }
 }

@@ -1,8 +1,6 @@
 use Rattle.std.proofs.Common.{arith}
-use Rattle.bounded.specs.Items.{items}
-use Rattle.bounded.proofs.Lists.{removed_past}
-use Rattle.bounded.proofs.Capacity.{items_length}
+use Rattle.bounded.proofs.Lists.{closed}
 use Rattle.bounded.proofs.list.Bounded.remove.Goals as goal
 
-pub returns-else-place-self : goal.returns-else-place-self
-returns-else-place-self g c = let n = items_length c.args.self.now in removed_past (items c.args.self.now) c.args.place (omega arith)
+pub returns-then-place-self : goal.returns-then-place-self
+returns-then-place-self g c = rw (← c.self.view_is) (closed c.self.inside.len c.args.place c.self.inside.slots c.copy_within.new.self (omega arith) (omega arith) (cc))
