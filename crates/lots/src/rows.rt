@@ -1,14 +1,14 @@
 // Plain values: what tables hold and calls carry. Nothing is known of their ranges.
 
 // A unit cost in hundredths, with the commodity that it is counted in.
-#[derive(Clone, Copy, PartialEq, Eq, Debug)]
+#[derive(Clone, Copy, PartialEq, Eq, Debug, Default)]
 pub struct Cost {
     pub number: u32,
     pub commodity: u8,
 }
 
 // What tells one open lot from another.
-#[derive(Clone, Copy, PartialEq, Eq, Debug)]
+#[derive(Clone, Copy, PartialEq, Eq, Debug, Default)]
 pub struct Key {
     pub account: u16,
     pub commodity: u8,
@@ -17,7 +17,7 @@ pub struct Key {
 }
 
 // A lot as a table keeps it. Units are hundredths; the serial counts opened lots from 1.
-#[derive(Clone, Copy, PartialEq, Eq, Debug)]
+#[derive(Clone, Copy, PartialEq, Eq, Debug, Default)]
 pub struct LotRow {
     pub key: Key,
     pub units: u32,

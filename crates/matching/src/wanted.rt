@@ -14,7 +14,7 @@ pub struct Wanted {
 }
 
 // So many units taken from a lot, which is given as it was before.
-#[derive(Clone, Copy, PartialEq, Eq, Debug)]
+#[derive(Clone, Copy, PartialEq, Eq, Debug, Default)]
 pub struct Draw {
     pub lot: LotRow,
     pub units: u32,
