@@ -3,7 +3,6 @@ use Rattle.std.specs.Prelude.{ℕ, ◌+◌, ◌-◌, Bool, cond, ◌&&◌, Some,
 use Rattle.lots.specs.declared.rows.Cost.{Cost}
 use Rattle.lots.specs.declared.rows.Key.{Key}
 use Rattle.lots.specs.declared.rows.LotRow.{LotRow}
-use Rattle.lots.specs.declared.lot.Lot.{Lot}
 
 abbrev pub same_cost : Cost → Cost → Bool
 same_cost a b = a.number == b.number && a.commodity == b.commodity
@@ -11,14 +10,6 @@ same_cost a b = a.number == b.number && a.commodity == b.commodity
 -- all five parts agree: account, commodity, unit cost, cost commodity, lot date
 abbrev pub same_key : Key → Key → Bool
 same_key a b = a.account == b.account && (a.commodity == b.commodity && (same_cost a.cost b.cost && a.date == b.date))
-
--- a lot as a plain row
-abbrev pub row_of : Lot → LotRow
-row_of l = record { key = l.key; units = l.units; serial = l.serial }
-
-abbrev pub rows_of : Option Lot → Option LotRow
-rows_of None = None
-rows_of (Some l) = Some (row_of l)
 
 -- a row of zeros, which is no lot's: what is read past the end of a list
 abbrev pub no_lot : LotRow

@@ -6,7 +6,7 @@ ghost use Rattle.std.proofs.Common.{rules};
 use crate::rows::LotRow;
 
 // What a policy is told before it settles a reduction.
-#[derive(Clone, Copy)]
+#[derive(Clone, Copy, PartialEq, Eq, Debug)]
 pub struct Question {
     // the units asked for
     pub units: u32,
@@ -41,7 +41,7 @@ pub trait Policy: Named {
     ghost keeps: { (p : Self) → Keeps (order p) };
 }
 
-#[derive(Clone, Copy)]
+#[derive(Clone, Copy, PartialEq, Eq, Debug)]
 pub struct Strict;
 
 impl Named for Strict {
@@ -70,7 +70,7 @@ impl Policy for Strict {
     }
 }
 
-#[derive(Clone, Copy)]
+#[derive(Clone, Copy, PartialEq, Eq, Debug)]
 pub struct Fifo;
 
 impl Named for Fifo {
@@ -91,7 +91,7 @@ impl Policy for Fifo {
     }
 
     fn before(&self, _units: u32, a: &LotRow, b: &LotRow) -> bool {
-        a.key.date < b.key.date || (a.key.date == b.key.date && a.serial < b.serial)
+        (a.key.date, a.serial) < (b.key.date, b.serial)
     }
 
     fn settles(&self, _question: &Question) -> bool {
@@ -99,7 +99,7 @@ impl Policy for Fifo {
     }
 }
 
-#[derive(Clone, Copy)]
+#[derive(Clone, Copy, PartialEq, Eq, Debug)]
 pub struct Lifo;
 
 impl Named for Lifo {
@@ -120,7 +120,7 @@ impl Policy for Lifo {
     }
 
     fn before(&self, _units: u32, a: &LotRow, b: &LotRow) -> bool {
-        a.key.date > b.key.date || (a.key.date == b.key.date && a.serial > b.serial)
+        (a.key.date, a.serial) > (b.key.date, b.serial)
     }
 
     fn settles(&self, _question: &Question) -> bool {
@@ -129,7 +129,7 @@ impl Policy for Lifo {
 }
 
 // Whole-lot stands over any policy: a lot of exactly the asked units goes first, so that it is handed over whole.
-#[derive(Clone, Copy)]
+#[derive(Clone, Copy, PartialEq, Eq, Debug)]
 pub struct WholeLot<P> {
     pub below: P,
 }

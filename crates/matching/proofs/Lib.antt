@@ -1,3 +1,4 @@
+pub mod Reduces
 pub mod Finds
 pub mod Sums
 pub mod Drawing

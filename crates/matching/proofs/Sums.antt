@@ -1,9 +1,13 @@
 -- Sums over lots and draws.
-use Rattle.std.proofs.Common.{◌≡◌, ℕ, ◌+◌, ◌-◌, ◌≤◌, min, Bool, true, false, eqb, List, [], ◌∷◌, ◌++◌, refl, arith}
+use Rattle.std.proofs.Common.{◌≡◌, ℕ, ◌+◌, ◌-◌, ◌≤◌, min, Bool, true, false, cond, eqb, List, [], ◌∷◌, ◌++◌, length, sym, refl, ◌∙◌, arith}
+use Rattle.std.specs.List.{filter, sum_by}
+use Rattle.std.proofs.lemmas.List.Sums.{sum_by-cons, length-filter}
+use Rattle.std.proofs.lemmas.List.Recursion.{is_sum_by}
 use Rattle.std.proofs.lemmas.Bool.{eqb-true, cond_both}
 use Rattle.lots.specs.declared.rows.LotRow.{LotRow}
 use Rattle.matching.specs.declared.wanted.Draw.{Draw}
 use Rattle.matching.specs.Sums.{sum_of}
+use Rattle.matching.specs.Matching.{units_matching, lots_matching}
 use Rattle.matching.specs.Drawing.{units_before, gives, insert_draw, draws_in_order}
 
 -- cases on a test, wherever it stands in a goal
@@ -37,3 +41,14 @@ sum_of_draws F lt g none (r ∷ rs) =
 
 pub gives_most : (M : LotRow → Bool) (lt : LotRow → LotRow → Bool) (u : ℕ) (lots : List LotRow) (r : LotRow) → gives M lt u lots r ≤ r.units
 gives_most M lt u lots r = cond_both (M r) (min r.units (u - units_before M lt lots r)) 0 (λ n. n ≤ r.units) (λ _. omega arith) (λ _. omega arith)
+
+-- what a chain over the lots that match adds up and counts
+pub units_kept : (M : LotRow → Bool) (lots : List LotRow) → sum_by (λ r. r.units) (filter M lots) ≡ units_matching M lots
+units_kept M [] = refl
+units_kept M (r ∷ rs) =
+    let ih = units_kept M rs in
+    let kept = filter M rs in
+    by_bool (M r) (λ b. sum_by (λ s. s.units) (cond b (r ∷ kept) kept) ≡ cond b r.units 0 + units_matching M rs) (λ _. omega (arith, sum_by-cons (λ s. s.units) r kept)) (λ _. omega arith)
+
+pub lots_kept : (M : LotRow → Bool) (lots : List LotRow) → length (filter M lots) ≡ lots_matching M lots
+lots_kept M lots = length-filter M lots ∙ sym (is_sum_by (lots_matching M) (λ r. cond (M r) 1 0) refl (λ _ _. refl) lots)

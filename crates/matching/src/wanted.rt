@@ -1,11 +1,11 @@
 // What a reduction asks for, and what it draws.
 ghost use Rattle.std.specs.Prelude.{◌≡◌};
-ghost use Rattle.matching.specs.Matching.{cost_agrees, date_agrees, matches};
+ghost use Rattle.matching.specs.Matching.{matches};
 
 use lots::rows::{Cost, LotRow};
 
 // Account and commodity, and what the braces give: a cost with its commodity, a lot date, both or nothing.
-#[derive(Clone, Copy)]
+#[derive(Clone, Copy, PartialEq, Eq, Debug)]
 pub struct Wanted {
     pub account: u16,
     pub commodity: u8,
@@ -14,28 +14,18 @@ pub struct Wanted {
 }
 
 // So many units taken from a lot, which is given as it was before.
-#[derive(Clone, Copy)]
+#[derive(Clone, Copy, PartialEq, Eq, Debug, Default)]
 pub struct Draw {
     pub lot: LotRow,
     pub units: u32,
 }
 
-fn cost_agrees(given: &Option<Cost>, row: &LotRow) -> bool
-    ensures { result ≡ cost_agrees given.now row.now.key }
-{
-    match given {
-        None => true,
-        Some(cost) => row.key.cost == *cost,
-    }
-}
-
-fn date_agrees(given: Option<u32>, row: &LotRow) -> bool
-    ensures { result ≡ date_agrees given row.now.key }
-{
-    match given {
-        None => true,
-        Some(date) => row.key.date == date,
-    }
+// So many units of the lots that are wanted, which a policy orders and settles.
+#[derive_where(Clone, Copy)]
+pub struct Reduction<'a, P> {
+    pub policy: &'a P,
+    pub wanted: Wanted,
+    pub units: u32,
 }
 
 impl Wanted {
@@ -45,7 +35,7 @@ impl Wanted {
     {
         row.key.account == self.account
             && row.key.commodity == self.commodity
-            && cost_agrees(&self.cost, row)
-            && date_agrees(self.date, row)
+            && self.cost.is_none_or(|cost| row.key.cost == cost)
+            && self.date.is_none_or(|date| row.key.date == date)
     }
 }

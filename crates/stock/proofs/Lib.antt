@@ -1,4 +1,3 @@
 pub mod Keeping
 pub mod Purchases
 pub mod Draws
-pub mod Reducing

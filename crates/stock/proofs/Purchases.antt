@@ -14,7 +14,7 @@ use Rattle.matching.proofs.Drawing.{sum_of_zero_all}
 use Rattle.matching.proofs.Steps.{sum_of_split}
 use Rattle.matching.proofs.Splits.{split_at, set_at, pairs_others}
 use Rattle.stock.specs.Tables.{Table, last_serial, answered, of_key, is_open, units_of_key, add_units, serial_for, purchased, purchased_late, purchase_refusal, table_after_purchase}
-use Rattle.stock.specs.Promises.{BringsUnits, KeptIfRefused}
+use Rattle.stock.specs.Promises.{BringsUnits}
 use Rattle.stock.specs.Places.{OpenAt, grown_at, opened}
 use Rattle.stock.specs.Kept.{WellKept, KeysDiffer}
 use Rattle.stock.proofs.Keeping.{key_same, key_itself}
@@ -140,29 +140,18 @@ module _ (k : Key) (n : ℕ) (t : Table) where
   answered_brings None = λ j. add_brings k j n t.next t.lots
   answered_brings (Some e) = tt
 
-  answered_keeps : (refusal : Option Refusal) → KeptIfRefused t (answered refusal (serial_for k t.next t.lots) (table_after_purchase k n t) t)
-  answered_keeps None = tt
-  answered_keeps (Some e) = refl
-
   pub brings : (p : Result ℕ Refusal × Table) → p ≡ purchased k n t → BringsUnits k n t p
   brings p e = subst (λ (q : Result ℕ Refusal × Table). BringsUnits k n t q) (sym e) (answered_brings (purchase_refusal k n t))
 
-  pub keeps : (p : Result ℕ Refusal × Table) → p ≡ purchased k n t → KeptIfRefused t p
-  keeps p e = subst (λ (q : Result ℕ Refusal × Table). KeptIfRefused t q) (sym e) (answered_keeps (purchase_refusal k n t))
-
   -- a new lot that was refused for want of a serial too
   module _ (small : n ≤ most) (none : OpenAt k t.lots None) where
-    pub opened_brings : BringsUnits k n t (opened k n t)
-    opened_brings =
+    pub opened_brings : (p : Result ℕ Refusal × Table) → p ≡ opened k n t → BringsUnits k n t p
+    opened_brings p e =
         ⊎_elim
-        (λ (low : t.next < last_serial). brings (opened k n t) (opened_is_purchased k n t small none low))
-        (λ (high : last_serial ≤ t.next). subst (λ (q : Result ℕ Refusal × Table). BringsUnits k n t q) (sym (opened_late high)) tt)
+        (λ (low : t.next < last_serial). brings p (e ∙ opened_is_purchased k n t small none low))
+        (λ (high : last_serial ≤ t.next). subst (λ (q : Result ℕ Refusal × Table). BringsUnits k n t q) (sym (e ∙ opened_late high)) tt)
         (cases_lt t.next last_serial)
       where
         opened_late : last_serial ≤ t.next → opened k n t ≡ (Err TooManyLots, t)
         opened_late high =
             cond-true (leb last_serial t.next || leb 256 (length t.lots)) (Err TooManyLots, t) (Ok t.next, record { lots = t.lots ++ (record { key = k; units = n; serial = t.next } ∷ []); next = t.next + 1 }) (or_left (leb last_serial t.next) (leb 256 (length t.lots)) (le-leb last_serial t.next high))
-
-  pub opened_keeps : KeptIfRefused t (opened k n t)
-  opened_keeps =
-      by_bool (leb last_serial t.next || leb 256 (length t.lots)) (λ (b : Bool). KeptIfRefused t (cond b (Err TooManyLots, t) (Ok t.next, record { lots = t.lots ++ (record { key = k; units = n; serial = t.next } ∷ []); next = t.next + 1 }))) (λ _. refl) (λ _. tt)

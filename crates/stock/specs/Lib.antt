@@ -2,4 +2,3 @@ pub mod Kept
 pub mod Tables
 pub mod Places
 pub mod Promises
-pub mod View

@@ -1,6 +1,7 @@
 -- The open lots, and what a purchase and a reduction answer and leave.
 -- Each has three parts: which refusal it meets, if any; what an accepted one leaves; what it answers.
 use Rattle.std.specs.Prelude.{ℕ, ◌+◌, Bool, false, cond, ◌||◌, List, [], ◌∷◌, length, Some, None, Ok, Err, Option, Result, ◌==◌, nat_le, nat_lt}
+use Rattle.std.specs.List.{find}
 use Rattle.refusal.specs.declared.Refusal.{Refusal}
 use Rattle.refusal.specs.declared.Refusal.TheVariants.{LotTooLarge, TooFewUnits, NotSettledByPolicy, TooManyLots}
 use Rattle.lots.specs.declared.rows.Key.{Key}
@@ -25,8 +26,7 @@ abbrev pub no_lots : Table
 no_lots = record { lots = []; next = 1 }
 
 abbrev pub lot_of_serial : ℕ → List LotRow → Option LotRow
-lot_of_serial n [] = None
-lot_of_serial n (r ∷ rs) = cond (r.serial == n) (Some r) (lot_of_serial n rs)
+lot_of_serial n lots = find (λ r. r.serial == n) lots
 
 -- what a call answers and leaves: refused, it changes nothing
 abbrev pub answered : {X : Type 0} → Option Refusal → X → Table → Table → Result X Refusal × Table

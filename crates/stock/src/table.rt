@@ -1,10 +1,7 @@
-// The table of the open lots. It keeps plain rows, in the order of their serials.
-ghost use Rattle.std.specs.Prelude.{◌≡◌, true};
-ghost use Rattle.bounded.specs.Items.{items};
-ghost use Rattle.stock.specs.Kept.{well_kept};
-
+// The table of the open lots. It keeps plain rows, in the order of their serials. Clauses see it as a `Table`.
 use bounded::list::Bounded;
 use lots::rows::LotRow;
+use std::marker::Model;
 
 pub mod purchase;
 pub mod reading;
@@ -17,5 +14,15 @@ pub const MOST_LOTS: usize = 256;
 pub struct LotTable {
     rows: Bounded<LotRow, MOST_LOTS>,
     next: u32,
-    ghost kept: { well_kept (items rows) next ≡ true },
+}
+
+impl Model for LotTable {
+    ghost use Rattle.stock.specs.Tables.{Table};
+    ghost use Rattle.stock.specs.Kept.{WellKept};
+
+    ghost Value = { Table };
+
+    ghost view = { λ t. record { lots = t.rows; next = t.next } };
+
+    ghost invariant = { λ t. WellKept (record { lots = t.rows; next = t.next }) };
 }

@@ -2,7 +2,6 @@
 #![tactic(auto)]
 
 ghost use Rattle.std.specs.Prelude.{◌≡◌, ◌*◌, ◌≤◌, pos, nat_abs};
-ghost use Rattle.lots.specs.Rows.{row_of};
 ghost use Rattle.weights.specs.Weights.{plain_weight, purchase_weight, draw_weight};
 ghost use Rattle.weights.specs.Sizes.{largest_weight};
 
@@ -10,7 +9,7 @@ use lots::lot::Lot;
 use lots::rows::Key;
 use matching::wanted::Draw;
 
-#[derive(Clone, Copy)]
+#[derive(Clone, Copy, PartialEq, Eq, Debug)]
 pub struct Weight {
     pub commodity: u8,
     pub amount: i128,
@@ -37,7 +36,7 @@ pub fn plain_weight(amount: i32, commodity: u8) -> Weight
 
 // A purchase weighs units times cost, in the cost commodity.
 pub fn purchase_weight(bought: &Lot) -> Weight
-    ensures { result ≡ purchase_weight (row_of bought.now).key (row_of bought.now).units }
+    ensures { result ≡ purchase_weight bought.now.key bought.now.units }
 {
     let row = bought.row();
     let cost = row.key.cost;

@@ -1,20 +1,18 @@
 // Reductions.
 ghost use Rattle.std.specs.Prelude.{◌≡◌, ◌<◌, ◌≤◌, length};
-ghost use Rattle.bounded.specs.Items.{items};
 ghost use Rattle.matching.specs.Matching.{matches, units_matching};
 ghost use Rattle.matching.specs.Drawing.{settled, draws_of};
 ghost use Rattle.matching.specs.Drawn.{TooFew, Unsettled};
+ghost use Rattle.stock.specs.Kept.{WellKept};
 ghost use Rattle.stock.specs.Tables.{reduced, table_after_reduction};
 ghost use Rattle.stock.specs.Places.{taken_at};
-ghost use Rattle.stock.specs.Promises.{map_ok, DrawsEarliestFirst, RefusedExactly, AcceptedWithOneMatch, KeptIfRefused};
-ghost use Rattle.stock.specs.View.{table_of};
+ghost use Rattle.stock.specs.Promises.{DrawsEarliestFirst, RefusedExactly, AcceptedWithOneMatch, KeptIfRefused};
 
-use super::reading::NO_LOT;
 use super::{LotTable, MOST_LOTS};
 use bounded::list::Bounded;
 use lots::policy::{Policy, Question};
-use matching::search::{earliest, lots_matching, units_matching};
-use matching::wanted::{Draw, Wanted};
+use matching::search::{lots_matching, units_matching};
+use matching::wanted::{Draw, Reduction};
 use refusal::Refusal;
 
 // What a reduction draws: from each open lot at most once.
@@ -22,50 +20,33 @@ pub type Draws = Bounded<Draw, MOST_LOTS>;
 
 impl LotTable {
     // Draws units from the matching lots in the policy's order, each to its last unit before the next; or refuses and changes nothing.
-    pub fn reduce<P: Policy>(
-        &mut self,
-        policy: &P,
-        wanted: &Wanted,
-        units: u32,
-    ) -> Result<Draws, Refusal>
-        ensures defined { (map_ok items result, table_of self.new) ≡ reduced (P.Policy.order policy.now) wanted.now units (table_of self.old) }
-        ensures draws_earliest_first { DrawsEarliestFirst (P.Policy.order policy.now) wanted.now units (table_of self.old) (map_ok items result, table_of self.new) }
-        ensures too_few_is_22 { RefusedExactly 22 (TooFew (matches wanted.now) units (table_of self.old).lots) (map_ok items result) }
-        ensures unsettled_is_23 { RefusedExactly 23 (Unsettled (P.Policy.order policy.now) (matches wanted.now) units (table_of self.old).lots) (map_ok items result) }
-        ensures one_match_is_settled { AcceptedWithOneMatch wanted.now units (table_of self.old) (map_ok items result) }
-        ensures refusal_changes_nothing { KeptIfRefused (table_of self.old) (map_ok items result, table_of self.new) }
+    pub fn reduce<P: Policy>(&mut self, asked: &Reduction<P>) -> Result<Draws, Refusal>
+        ensures defined { (result, self.new) ≡ reduced (P.Policy.order asked.now.policy.now) asked.now.wanted asked.now.units self.old }
+        ensures draws_earliest_first { DrawsEarliestFirst (P.Policy.order asked.now.policy.now) asked.now.wanted asked.now.units self.old (result, self.new) }
+        ensures too_few_is_22 { RefusedExactly 22 (TooFew (matches asked.now.wanted) asked.now.units self.old.lots) result }
+        ensures unsettled_is_23 { RefusedExactly 23 (Unsettled (P.Policy.order asked.now.policy.now) (matches asked.now.wanted) asked.now.units self.old.lots) result }
+        ensures one_match_is_settled { AcceptedWithOneMatch asked.now.wanted asked.now.units self.old result }
+        ensures refusal_changes_nothing { KeptIfRefused self.old (result, self.new) }
     {
-        self.decide(policy, wanted, units)
-    }
-
-    // Refuses, or draws.
-    fn decide<P: Policy>(
-        &mut self,
-        policy: &P,
-        wanted: &Wanted,
-        units: u32,
-    ) -> Result<Draws, Refusal>
-        ensures { (map_ok items result, table_of self.new) ≡ reduced (P.Policy.order policy.now) wanted.now units (table_of self.old) }
-    {
-        if units_matching(self.lots(), wanted) < units as u128 {
+        if units_matching(self.lots(), &asked.wanted) < u128::from(asked.units) {
             return Err(Refusal::TooFewUnits);
         }
-        if !self.settled_by(policy, wanted, units) {
+        if !self.is_settled(asked) {
             return Err(Refusal::NotSettledByPolicy);
         }
-        Ok(self.draw(policy, wanted, units))
+        Ok(self.draw(asked))
     }
 
     // Whether the policy settles, asked with the earliest of the matching lots.
-    fn settled_by<P: Policy>(&self, policy: &P, wanted: &Wanted, units: u32) -> bool
-        ensures { result ≡ settled (P.Policy.order policy.now) (matches wanted.now) units (table_of self.now).lots }
+    fn is_settled<P: Policy>(&self, asked: &Reduction<P>) -> bool
+        ensures { result ≡ settled (P.Policy.order asked.now.policy.now) (matches asked.now.wanted) asked.now.units self.now.lots }
     {
         let rows = self.lots();
-        match earliest(policy, units, wanted, rows) {
+        match asked.earliest(rows) {
             None => true,
-            Some(place) => policy.settles(&Question {
-                units,
-                lots: lots_matching(rows, wanted),
+            Some(place) => asked.policy.settles(&Question {
+                units: asked.units,
+                lots: lots_matching(rows, &asked.wanted),
                 earliest: rows[place],
             }),
         }
@@ -73,24 +54,22 @@ impl LotTable {
 
     // The order is asked with all the units, also where some are drawn already: a lot is touched at most once,
     // so those that are still there have the units that they had before.
-    fn draw<P: Policy>(&mut self, policy: &P, wanted: &Wanted, units: u32) -> Draws
-        requires { units ≤ units_matching (matches wanted.now) (table_of self.old).lots }
-        ensures drawn { items result ≡ draws_of (P.Policy.order policy.now) wanted.now units (table_of self.old).lots }
-        ensures after { table_of self.new ≡ table_after_reduction (P.Policy.order policy.now) wanted.now units (table_of self.old) }
+    fn draw<P: Policy>(&mut self, asked: &Reduction<P>) -> Draws
+        requires enough { asked.now.units ≤ units_matching (matches asked.now.wanted) self.old.lots }
+        requires kept { WellKept self.old }
+        ensures drawn { result ≡ draws_of (P.Policy.order asked.now.policy.now) asked.now.wanted asked.now.units self.old.lots }
+        ensures after { self.new ≡ table_after_reduction (P.Policy.order asked.now.policy.now) asked.now.wanted asked.now.units self.old }
     {
-        let mut draws = Bounded::new(Draw {
-            lot: NO_LOT,
-            units: 0,
-        });
-        let mut left = units;
+        let mut draws = Bounded::new(Draw::default());
+        let mut left = asked.units;
         while left > 0 {
-            let Some(place) = earliest(policy, units, wanted, self.lots()) else {
-                unreachable()
+            let Some(place) = asked.earliest(self.lots()) else {
+                unreachable!()
             };
             let draw = self.take_from(place, left);
             left -= draw.units;
             let Ok(()) = draws.push(draw) else {
-                unreachable()
+                unreachable!()
             };
         }
         draws
@@ -98,8 +77,9 @@ impl LotTable {
 
     // The lot at a place gives what is asked, or all that it has; emptied, it is gone.
     fn take_from(&mut self, place: usize, asked: u32) -> Draw
-        requires { place < length (items self.old.rows) }
-        ensures { (result, table_of self.new) ≡ taken_at place asked (table_of self.old) }
+        requires { place < length self.old.lots }
+        ensures taken { (result, self.new) ≡ taken_at place asked self.old }
+        ensures kept { WellKept self.new }
     {
         let lot = self.lot_at(place);
         let row = lot.row();

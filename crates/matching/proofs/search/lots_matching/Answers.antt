@@ -1,16 +1,12 @@
-use Rattle.std.proofs.Common.{arith}
-use Rattle.std.proofs.lemmas.List.{at_drop_more, at_drop_all}
-use Rattle.lots.specs.Rows.{no_lot}
-use Rattle.matching.specs.Matching.{matches, lots_matching}
+use Rattle.std.proofs.Common.{◌∙◌, rules, tests}
+use Rattle.std.proofs.lemmas.Iterator.{YieldsList-from_slice}
+use Rattle.std.proofs.lemmas.Iterator.Consumers.{YieldsList-from_filter, count_from_yields_List}
+use Rattle.matching.specs.Matching.{matches}
+use Rattle.matching.proofs.Sums.{lots_kept}
 use Rattle.matching.proofs.search.lots_matching.Goals as goal
-use Rattle.matching.proofs.search.lots_matching.Goals.{then-matches, else-matches}
-
-pub loop-row-preserved : goal.loop-row-preserved
-loop-row-preserved c =
-    let step = at_drop_more (lots_matching (matches c.args.wanted.now)) c.args.rows.now c.loop-row.row-index no_lot (omega arith) in
-    elim c.if-matches.branch [ then-matches w ↦ (grind (arith, step, w.if-matches.ensures), omega arith) | else-matches w ↦ (grind (arith, step, w.if-matches.ensures), omega arith) ]
 
 pub returns : goal.returns
 returns c =
-    let end = at_drop_all (lots_matching (matches c.args.wanted.now)) c.args.rows.now c.loop-row.row-index (omega arith) in
-    omega (arith, end)
+    let M = matches c.args.wanted.now in
+    count_from_yields_List c.filter.result c.count.result c.count.ensures.ran (YieldsList-from_filter _ M (YieldsList-from_slice c.args.rows.now (cc)) c.filter.ensures.closure (λ x r q k. search (rules, tests)))
+    ∙ lots_kept M c.args.rows.now

@@ -1,44 +1,41 @@
-use Rattle.std.proofs.Common.{◌≡◌, ℕ, List, Some, None, Option, Result, sym, ap, ◌∙◌, subst}
-use Rattle.bounded.specs.Items.{items}
-use Rattle.lots.specs.declared.rows.Key.{Key}
-use Rattle.lots.specs.declared.rows.LotRow.{LotRow}
-use Rattle.refusal.specs.declared.Refusal.{Refusal}
-use Rattle.stock.specs.Tables.{Table}
-use Rattle.stock.specs.Promises.{BringsUnits, KeptIfRefused}
+use Rattle.std.proofs.Common.{◌≡◌, ◌≤◌, Some, None, ◌∙◌, rules}
+use Rattle.lots.specs.Rows.{most}
 use Rattle.stock.specs.Places.{OpenAt, grown_at}
-use Rattle.stock.specs.View.{table_of}
-use Rattle.stock.proofs.Purchases.{grown_is_purchased, grown_is_late, opened_is_purchased, opened_is_late, brings, keeps, opened_brings, opened_keeps}
+use Rattle.stock.specs.Tables.{purchased}
+use Rattle.stock.proofs.Purchases.{grown_is_purchased, grown_is_late, opened_is_purchased, opened_is_late, brings, opened_brings}
 use Rattle.stock.proofs.table.LotTable.purchase.Goals as goal
 
--- what the search for the place found, in the table's own words
-found : (k k' : Key) (xs ys : List LotRow) (r s : Option ℕ) → k ≡ k' → xs ≡ ys → r ≡ s → OpenAt k xs r → OpenAt k' ys s
-found k k' xs ys r s e f g at =
-    subst (λ (q : Option ℕ). OpenAt k' ys q) g (subst (λ (zs : List LotRow). OpenAt k' zs r) f (subst (λ (j : Key). OpenAt j xs r) e at))
+-- the lot of the key is open at this place, and has grown
+open_at : (c : goal.After-grow) → OpenAt c.args.bought.now.key c.args.self.now.lots (Some c.in-Some.place)
+open_at c = search rules
 
-pub returns-in-Some : goal.returns-in-Some
-returns-in-Some c =
-    let t = c.args.self.now in
-    let b = c.args.bought.now in
-    let at = found c.row-units.result.key b.key c.lots.result.now (items t.rows) c.place_of.result (Some c.in-Some.place) (ap (λ (r : LotRow). r.key) c.row-units.ensures) c.lots.ensures.listed c.in-Some.is c.place_of.ensures in
-    let kept = c.lots.ensures.kept in
-    let grew = c.grow.ensures ∙ ap (λ (r : LotRow). grown_at c.in-Some.place r.units (table_of t)) c.row-units.ensures in
-    let is = grew ∙ grown_is_purchased b.key b.units (table_of t) kept c.in-Some.place at in
-    let p : Result ℕ Refusal × Table = (c.grow.result, table_of c.grow.new.self) in
-    record {
-      booked = λ _. is;
-      out_of_serials = λ _. grew ∙ grown_is_late b.key b.units (table_of t) kept c.in-Some.place at;
-      brings_units = brings b.key b.units (table_of t) p is;
-      refusal_changes_nothing = keeps b.key b.units (table_of t) p is;
-    }
+grew : (c : goal.After-grow) → (c.grow.result, c.grow.new.self) ≡ grown_at c.in-Some.place c.args.bought.now.units c.args.self.now
+grew c = search rules
 
-pub returns-in-None : goal.returns-in-None
-returns-in-None c =
-    let t = c.args.self.now in
-    let b = c.args.bought.now in
-    let at = found c.row-units.result.key b.key c.lots.result.now (items t.rows) c.place_of.result None (ap (λ (r : LotRow). r.key) c.row-units.ensures) c.lots.ensures.listed c.in-None.is c.place_of.ensures in
-    record {
-      booked = λ low. c.start.ensures ∙ opened_is_purchased b.key b.units (table_of t) b.bounded at low;
-      out_of_serials = λ high. c.start.ensures ∙ opened_is_late b.key b.units (table_of t) b.bounded at high;
-      brings_units = subst (λ (q : Result ℕ Refusal × Table). BringsUnits b.key b.units (table_of t) q) (sym c.start.ensures) (opened_brings b.key b.units (table_of t) b.bounded at);
-      refusal_changes_nothing = subst (λ (q : Result ℕ Refusal × Table). KeptIfRefused (table_of t) q) (sym c.start.ensures) (opened_keeps b.key b.units (table_of t));
-    }
+booked : (c : goal.After-grow) → (c.grow.result, c.grow.new.self) ≡ purchased c.args.bought.now.key c.args.bought.now.units c.args.self.now
+booked c = grew c ∙ grown_is_purchased c.args.bought.now.key c.args.bought.now.units c.args.self.now c.lots.ensures.kept c.in-Some.place (open_at c)
+
+pub returns-in-Some-clause-booked : goal.returns-in-Some-clause-booked
+returns-in-Some-clause-booked c = λ _. booked c
+
+pub returns-in-Some-clause-out_of_serials : goal.returns-in-Some-clause-out_of_serials
+returns-in-Some-clause-out_of_serials c = λ _. grew c ∙ grown_is_late c.args.bought.now.key c.args.bought.now.units c.args.self.now c.lots.ensures.kept c.in-Some.place (open_at c)
+
+pub returns-in-Some-clause-brings_units : goal.returns-in-Some-clause-brings_units
+returns-in-Some-clause-brings_units c = brings c.args.bought.now.key c.args.bought.now.units c.args.self.now (c.grow.result, c.grow.new.self) (booked c)
+
+-- no lot of the key is open
+none_open : (c : goal.After-start) → OpenAt c.args.bought.now.key c.args.self.now.lots None
+none_open c = search rules
+
+small : (c : goal.After-start) → c.args.bought.now.units ≤ most
+small c = search rules
+
+pub returns-in-None-clause-booked : goal.returns-in-None-clause-booked
+returns-in-None-clause-booked c = λ low. c.start.ensures ∙ opened_is_purchased c.args.bought.now.key c.args.bought.now.units c.args.self.now (small c) (none_open c) low
+
+pub returns-in-None-clause-out_of_serials : goal.returns-in-None-clause-out_of_serials
+returns-in-None-clause-out_of_serials c = λ high. c.start.ensures ∙ opened_is_late c.args.bought.now.key c.args.bought.now.units c.args.self.now (small c) (none_open c) high
+
+pub returns-in-None-clause-brings_units : goal.returns-in-None-clause-brings_units
+returns-in-None-clause-brings_units c = opened_brings c.args.bought.now.key c.args.bought.now.units c.args.self.now (small c) (none_open c) (c.start.result, c.start.new.self) c.start.ensures

@@ -1,25 +1,20 @@
-use Rattle.std.proofs.Common.{◌≡◌, ◌+◌, true, List, [], ◌∷◌, ◌++◌, sym, ap, ◌∙◌, subst}
-use Rattle.std.specs.List.{AllByRecursion}
-use Rattle.bounded.specs.Items.{items}
-use Rattle.bounded.proofs.Capacity.{items_within, pushed_ok}
-use Rattle.lots.specs.declared.rows.Key.{Key}
+use Rattle.std.proofs.Common.{◌≡◌, ◌+◌, ◌<◌, None, [], ◌∷◌, ◌++◌, length, ap, rules}
 use Rattle.lots.specs.declared.rows.LotRow.{LotRow}
-use Rattle.lots.specs.Rows.{in_range}
-use Rattle.stock.specs.Kept.{well_kept}
-use Rattle.stock.proofs.Keeping.{in_words, as_test, kept_pushed, lot_in_range}
+use Rattle.stock.specs.Places.{OpenAt}
+use Rattle.stock.specs.Tables.{Table}
+use Rattle.stock.proofs.Keeping.{kept_pushed}
 use Rattle.stock.proofs.Purchases.{keys_others}
 use Rattle.stock.proofs.table.LotTable.start.Goals as goal
 
-pub invariant_of-self : goal.invariant_of-self
-invariant_of-self c =
-    let t = c.args.self.now in
-    let xs = items t.rows in
-    let x : LotRow = record { key = c.row.result.key; units = c.row.result.units; serial = t.next } in
-    let pushed = pushed_ok 256 xs (items c.push.new.self) x c.in-Ok.field-0 c.in-Ok.ensures in
-    let same : record { key = c.args.bought.now.key; units = c.args.bought.now.units; serial = t.next } ≡ x = λ i. record { key = (sym c.row.ensures i).key; units = (sym c.row.ensures i).units; serial = t.next } in
-    let good = subst (λ (r : LotRow). in_range r ≡ true) same (lot_in_range c.args.bought.now) in
-    let others = subst (λ (k : Key). AllByRecursion (λ r. r.key ≡ k → ⊥) xs) (sym (ap (λ (r : LotRow). r.key) c.row.ensures)) (keys_others c.args.bought.now.key xs c.requires) in
-    record {
-      kept = ap (λ (rs : List LotRow). well_kept rs (t.next + 1)) pushed.0
-          ∙ as_test (xs ++ x ∷ []) (t.next + 1) (kept_pushed xs x pushed.1 good others (in_words xs t.next (items_within t.rows) t.kept));
-    }
+pub invariant_of-self-2 : goal.invariant_of-self-2
+invariant_of-self-2 c =
+    let rows = c.self.inside.rows in
+    let row = c.row.result in
+    let x : LotRow = record { key = row.key; units = row.units; serial = c.self.inside.next } in
+    let pushed : c.push.new.self ≡ rows ++ x ∷ [] = search rules in
+    let room : length rows < 256 = search rules in
+    let same_rows : rows ≡ c.args.self.now.lots = ap (λ (t : Table). t.lots) c.self.view_is in
+    let same_key : row.key ≡ c.args.bought.now.key = ap (λ (r : LotRow). r.key) c.row.ensures.row in
+    let none : OpenAt row.key rows None = rw (same_rows, same_key) c.requires in
+    let next : c.in_ok-next.next ≡ c.self.inside.next + 1 = search rules in
+    rw (pushed, next) (kept_pushed rows x room c.row.ensures.ranges (keys_others row.key rows none) c.self.invariant)
