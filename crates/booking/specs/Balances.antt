@@ -1,5 +1,6 @@
 -- Plain balances by account and commodity, and the tests of a weighed draft.
-use Rattle.std.specs.Prelude.{ℕ, ◌+◌, ◌-◌, ◌*◌, Bool, true, cond, not, ◌&&◌, List, [], ◌∷◌, replicate, ℤ, pos, ◌+ℤ◌, Some, None, Option, nat_le, slice_index_or, slice_set, unsigned_abs}
+use Rattle.std.specs.Prelude.{ℕ, ◌+◌, ◌-◌, ◌*◌, Bool, cond, not, List, [], ◌∷◌, replicate, ℤ, pos, ◌+ℤ◌, Some, None, Option, nat_le, slice_index_or, slice_set, unsigned_abs}
+use Rattle.std.specs.List.{list_all}
 use Rattle.refusal.specs.declared.Refusal.{Refusal}
 use Rattle.refusal.specs.declared.Refusal.TheVariants.{NotBalanced, BlankCannotBeFilled, BalanceTooLarge}
 use Rattle.booking.specs.declared.posting.Posting.{Posting}
@@ -40,8 +41,7 @@ abbrev pub largest_balance : ℕ
 largest_balance = 6100000000000
 
 abbrev pub all_within : List ℤ → Bool
-all_within [] = true
-all_within (z ∷ zs) = nat_le (unsigned_abs z) largest_balance && all_within zs
+all_within bs = list_all (λ z. nat_le (unsigned_abs z) largest_balance) bs
 
 -- 27: a plain balance would, after the whole draft, be larger in size
 abbrev pub balance_too_large : List ℤ → List Entry → Bool
