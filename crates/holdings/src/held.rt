@@ -3,6 +3,7 @@ ghost use Rattle.std.specs.Prelude.{◌≡◌, ◌≤◌, pos, None, length, if�
 ghost use Rattle.matching.specs.Matching.{matches, units_matching};
 ghost use Rattle.values.specs.Names.{lies_under};
 ghost use Rattle.booking.specs.Postings.{wanted_lots};
+ghost use Rattle.booking.specs.Weighing.{is_zero};
 ghost use Rattle.books.specs.Holdings.{units_in_lots, plain_balance, holding, holdings_under, no_plain_balance, has_lot, is_empty_account};
 ghost use Rattle.books.specs.States.{empty_ledger};
 ghost use Rattle.holdings.specs.Bounds.{most_in_lots, largest_holding};
@@ -95,12 +96,18 @@ impl Holdings {
             .any(|row| row.key.account == account)
     }
 
+    fn is_zero(&self, account: u16, commodity: u8) -> bool
+        ensures { result ≡ is_zero (plain_balance self.now account commodity) }
+    {
+        self.plain_balance(account, commodity) == 0
+    }
+
     // Whether the plain balances of an account are 0 in every commodity.
     fn no_plain_balance(&self, account: u16) -> bool
         ensures { result ≡ no_plain_balance self.now account 16 }
     {
         for commodity in 1..=MOST_COMMODITIES {
-            if self.balances.balance(account, commodity) != 0 {
+            if !self.is_zero(account, commodity) {
                 return false;
             }
         }

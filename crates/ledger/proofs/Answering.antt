@@ -1,5 +1,6 @@
 -- A call whose table is checked first: refused it answers the first refusal that is met, else it is carried out.
 use Rattle.std.proofs.Common.{◌≡◌, ℕ, Bool, List, [], ◌∷◌, Some, None, Ok, Err, Option, sym, refl, ap, ◌∙◌, arith}
+use Rattle.std.specs.Result.{result_map_both}
 use Rattle.refusal.specs.declared.Refusal.{Refusal}
 use Rattle.refusal.specs.declared.Refusal.TheVariants.{BadAccountName, AccountOpenedBefore, BooksFull}
 use Rattle.refusal.specs.declared.Fault.{Fault}
@@ -16,16 +17,9 @@ use Rattle.books.specs.Refusals.{tests, tests_at, dated_tests, refusal, first_fa
 use Rattle.books.specs.Changes.{change, reply}
 use Rattle.books.specs.Steps.{answered, step}
 use Rattle.books.proofs.Nested.{first_at}
+use Rattle.ledger.specs.Answers.{carried_out}
 use Rattle.ledger.specs.CallTables.{opening_tests}
-
--- what an answer says of what refuses
-pub refuses : {X E : Type 0} (r : Option E) (x : X) (e : E) → Err e ≡ unless r x → r ≡ Some e
-refuses None x e h = let z : ◌≡◌ {A = ℕ} 0 1 = cc in absurd (omega arith)
-refuses (Some f) x e h = cc
-
-pub refuses_not : {X E : Type 0} (r : Option E) (x y : X) → Ok y ≡ unless r x → r ≡ None
-refuses_not None x y h = refl
-refuses_not (Some f) x y h = let z : ◌≡◌ {A = ℕ} 0 1 = cc in absurd (omega arith)
+use Rattle.ledger.specs.Kept.{Kept, in_state}
 
 -- a call's refusal is the first that its table meets
 pub by_table : (o : Order) (s : State) (c : Call) (line : ℕ) (ts : List (Refusal × Bool)) → tests o s c ≡ tests_at line ts → refusal o s c ≡ at_line line (first_met ts)
@@ -39,15 +33,33 @@ opening_by_table o s source date name None =
 opening_by_table o s source date name (Some c) = by_table o s (opening source date name (Some c)) source (opening_tests s date name (Some c)) refl
 
 module _ (o : Order) (s : State) (c : Call) (line : ℕ) (ts : List (Refusal × Bool)) (met : refusal o s c ≡ at_line line (first_met ts)) where
-  pub refused : {X : Type 0} (x : X) (e : Refusal) (f : Fault) → Err e ≡ unless (first_met ts) x → f ≡ fault_at line e → (Refused f, s) ≡ step o s c
-  refused x e f h reported = ap (λ (g : Fault). (Refused g, s)) reported ∙ sym (ap (answered o s c) (met ∙ ap (at_line line) (refuses (first_met ts) x e h)))
+  -- what the check of the table says of its first refusal
+  reported_err : {X : Type 0} (r : Option Refusal) (x : X) (f : Fault) → Err f ≡ result_map_both (λ y. y) (fault_at line) (unless r x) → at_line line r ≡ Some f
+  reported_err None x f h = let z : ◌≡◌ {A = ℕ} 0 1 = cc in absurd (omega arith)
+  reported_err (Some e) x f h = cc
 
-  pub accepted : {X : Type 0} (x y : X) → Ok y ≡ unless (first_met ts) x → (out : Outcome) (t : State) → out ≡ reply s c → t ≡ change o s c → (out, t) ≡ step o s c
+  reported_ok : {X : Type 0} (r : Option Refusal) (x y : X) → Ok y ≡ result_map_both (λ z. z) (fault_at line) (unless r x) → (at_line line r ≡ None) × (y ≡ x)
+  reported_ok None x y h = (refl, cc)
+  reported_ok (Some e) x y h = let z : ◌≡◌ {A = ℕ} 0 1 = cc in absurd (omega arith)
+
+  refused : {X : Type 0} (x : X) (f : Fault) → Err f ≡ result_map_both (λ y. y) (fault_at line) (unless (first_met ts) x) → (Refused f, s) ≡ step o s c
+  refused x f h = sym (ap (answered o s c) (met ∙ reported_err (first_met ts) x f h))
+
+  -- carried out, with what the check found
+  accepted : {X : Type 0} (x y : X) → Ok y ≡ result_map_both (λ z. z) (fault_at line) (unless (first_met ts) x) → (out : Outcome) (t : State) → out ≡ reply s c → (y ≡ x → t ≡ change o s c) → (out, t) ≡ step o s c
   accepted x y h out t replied changed =
-      ap (λ (r : Outcome). (r, t)) replied ∙ ap (λ (u : State). (reply s c, u)) changed
-      ∙ sym (ap (answered o s c) (met ∙ ap (at_line line) (refuses_not (first_met ts) x y h)))
+      let ok = reported_ok (first_met ts) x y h in
+      ap (λ (r : Outcome). (r, t)) replied ∙ ap (λ (u : State). (reply s c, u)) (changed ok.1)
+      ∙ sym (ap (answered o s c) (met ∙ ok.0))
 
--- and the value that the check found
-pub finds : {X E : Type 0} (r : Option E) (x y : X) → Ok y ≡ unless r x → y ≡ x
-finds None x y h = cc
-finds (Some e) x y h = let z : ◌≡◌ {A = ℕ} 0 1 = cc in absurd (omega arith)
+-- the same of a ledger, whose policy stays
+module _ {P : Type 0} (order : P → Order) (l : Kept P) (c : Call) (line : ℕ) (ts : List (Refusal × Bool)) (met : refusal (order l.policy) l.state c ≡ at_line line (first_met ts)) where
+  pub call_refused : {X : Type 0} (x : X) (f : Fault) → Err f ≡ result_map_both (λ y. y) (fault_at line) (unless (first_met ts) x) → (out : Outcome) → out ≡ Refused f → (out, l) ≡ carried_out order l c
+  call_refused x f h out is =
+      ap (λ (r : Outcome). (r, l)) is
+      ∙ ap (λ (q : Outcome × State). (q.0, in_state l q.1)) (refused (order l.policy) l.state c line ts met x f h)
+
+  pub call_accepted : {X : Type 0} (x y : X) → Ok y ≡ result_map_both (λ z. z) (fault_at line) (unless (first_met ts) x) → (out : Outcome) (k : Kept P) (t : State) → out ≡ reply l.state c → k ≡ in_state l t → (y ≡ x → t ≡ change (order l.policy) l.state c) → (out, k) ≡ carried_out order l c
+  call_accepted x y h out k t replied left changed =
+      ap (λ (m : Kept P). (out, m)) left
+      ∙ ap (λ (q : Outcome × State). (q.0, in_state l q.1)) (accepted (order l.policy) l.state c line ts met x y h out t replied changed)

@@ -5,8 +5,8 @@ use Rattle.lots.specs.Orders.{Order}
 use Rattle.books.specs.declared.outcome.Outcome.{Outcome}
 use Rattle.books.specs.declared.outcome.Outcome.TheVariants.{Refused}
 use Rattle.books.specs.Calls.{Call}
-use Rattle.books.specs.States.{State}
 use Rattle.books.specs.Steps.{step}
+use Rattle.ledger.specs.Kept.{Kept, in_state}
 use Rattle.ledger.specs.declared.slip.Slip.{Slip}
 
 abbrev pub outcome_of : {X : Type 0} → (X → Outcome) → Result X Fault → Outcome
@@ -14,8 +14,8 @@ outcome_of accepted (Ok x) = accepted x
 outcome_of accepted (Err fault) = Refused fault
 
 -- what a call on a ledger of a policy answers and leaves; the policy stays
-abbrev pub carried_out : {P : Type 0} → (P → Order) → P × State → Call → Outcome × (P × State)
-carried_out order l call = ((step (order l.0) l.1 call).0, (l.0, (step (order l.0) l.1 call).1))
+abbrev pub carried_out : {P : Type 0} → (P → Order) → Kept P → Call → Outcome × Kept P
+carried_out order l call = ((step (order l.policy) l.state call).0, in_state l (step (order l.policy) l.state call).1)
 
 -- refused, the slip comes back
 abbrev pub outcome_with_slip : {X : Type 0} → (X → Outcome) → Result X (Slip × Fault) → Outcome

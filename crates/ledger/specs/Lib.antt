@@ -1,3 +1,4 @@
 pub mod Ranks
 pub mod Answers
 pub mod CallTables
+pub mod Kept

@@ -11,11 +11,14 @@ ghost use Rattle.ledger.specs.CallTables.{asserting_tests, closing_tests};
 ghost use Rattle.ledger.specs.Answers.{carried_out};
 ghost use Rattle.books.specs.declared.outcome.Outcome.TheVariants.{Done};
 ghost use Rattle.ledger.specs.Answers.{outcome_of};
+ghost use Rattle.ledger.specs.Kept.{in_state};
 
 use crate::Ledger;
-use crate::fault::fault_at;
+use crate::fault::reported;
 use crate::rank::Rank;
-use drafting::checks::{check_account_name, check_commodity_name, check_date, check_number, refuse_unless};
+use drafting::checks::{
+    check_account_name, check_commodity_name, check_date, check_number, refuse_unless,
+};
 use lots::policy::Policy;
 use refusal::{Fault, Refusal};
 
@@ -29,7 +32,7 @@ fn differs(total: i64, amount: i32) -> bool
 impl<P: Policy> Ledger<P> {
     // What the accounts under a name hold of a commodity; none where no such account was ever opened.
     fn total_under(&self, account: &[u8], commodity: u8) -> Option<i64>
-        ensures { result ≡ (if any_under self.now.1.names account.now then Some (holdings_under self.now.1.books account.now commodity 1 self.now.1.names.accounts) else None) }
+        ensures { result ≡ (if any_under self.now.state.names account.now then Some (holdings_under self.now.state.books account.now commodity 1 self.now.state.names.accounts) else None) }
     {
         self.chart.has_under(account).then(|| {
             self.holdings
@@ -44,7 +47,7 @@ impl<P: Policy> Ledger<P> {
         amount: i32,
         commodity: &[u8],
     ) -> Result<(), Refusal>
-        ensures { result ≡ unless (first_met (asserting_tests self.now.1 date account.now amount commodity.now)) tt }
+        ensures { result ≡ unless (first_met (asserting_tests self.now.state date account.now amount commodity.now)) tt }
     {
         self.check_no_draft()?;
         check_date(date)?;
@@ -73,15 +76,17 @@ impl<P: Policy> Ledger<P> {
     ) -> Result<(), Fault>
         ensures { (outcome_of (λ _. Done) result, self.new) ≡ carried_out P.Policy.order self.old (asserting source date account.now amount commodity.now) }
     {
-        self.check_asserting(date, account, amount, commodity)
-            .map_err(|refusal| fault_at(source, refusal))?;
+        reported(
+            source,
+            self.check_asserting(date, account, amount, commodity),
+        )?;
         self.accept(date, Rank::Asserting);
         Ok(())
     }
 
     // The number of the account, if it may be closed.
     fn check_closing(&self, date: u32, account: &[u8]) -> Result<u16, Refusal>
-        ensures { result ≡ unless (first_met (closing_tests self.now.1 date account.now)) (number_or_0 (open_account self.now.1.names account.now)) }
+        ensures { result ≡ unless (first_met (closing_tests self.now.state date account.now)) (number_or_0 (open_account self.now.state.names account.now)) }
     {
         self.check_no_draft()?;
         check_date(date)?;
@@ -91,12 +96,15 @@ impl<P: Policy> Ledger<P> {
             .chart
             .open_account(account)
             .ok_or(Refusal::AccountNotOpen)?;
-        refuse_unless(self.holdings.is_empty_account(number), Refusal::AccountNotEmpty)?;
+        refuse_unless(
+            self.holdings.is_empty_account(number),
+            Refusal::AccountNotEmpty,
+        )?;
         Ok(number)
     }
 
     fn close_account(&mut self, date: u32, number: u16)
-        ensures named { self.new ≡ (self.old.0, with_names self.old.1 (with_account_closed self.old.1.names number) date 3) }
+        ensures { self.new ≡ in_state self.old (with_names self.old.state (with_account_closed self.old.state.names number) date 3) }
     {
         self.chart.close(number);
         self.accept(date, Rank::Closing);
@@ -106,9 +114,7 @@ impl<P: Policy> Ledger<P> {
     pub(crate) fn close(&mut self, source: u32, date: u32, account: &[u8]) -> Result<(), Fault>
         ensures { (outcome_of (λ _. Done) result, self.new) ≡ carried_out P.Policy.order self.old (closing source date account.now) }
     {
-        let number = self
-            .check_closing(date, account)
-            .map_err(|refusal| fault_at(source, refusal))?;
+        let number = reported(source, self.check_closing(date, account))?;
         self.close_account(date, number);
         Ok(())
     }

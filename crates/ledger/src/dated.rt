@@ -5,6 +5,7 @@ ghost use Rattle.books.specs.Checks.{Checks};
 ghost use Rattle.books.specs.Conditions.{draft_under_way, goes_back};
 ghost use Rattle.books.specs.Changes.{with_names};
 ghost use Rattle.ledger.specs.Ranks.{rank_number};
+ghost use Rattle.ledger.specs.Kept.{in_state};
 
 use crate::Ledger;
 use crate::rank::Rank;
@@ -15,21 +16,24 @@ use refusal::Refusal;
 impl<P: Policy> Ledger<P> {
     // 1
     pub(crate) fn check_no_draft(&self) -> Result<(), Refusal>
-        ensures { Checks DraftUnderWay (draft_under_way self.now.1) result }
+        ensures { Checks DraftUnderWay (draft_under_way self.now.state) result }
     {
         refuse_unless(self.draft.is_none(), Refusal::DraftUnderWay)
     }
 
     // 12
     pub(crate) fn check_forward(&self, date: u32, rank: Rank) -> Result<(), Refusal>
-        ensures { Checks GoesBack (goes_back self.now.1 date (rank_number rank)) result }
+        ensures { Checks GoesBack (goes_back self.now.state date (rank_number rank)) result }
     {
-        refuse_unless((self.last_date, self.last_rank) <= (date, rank), Refusal::GoesBack)
+        refuse_unless(
+            (self.last_date, self.last_rank) <= (date, rank),
+            Refusal::GoesBack,
+        )
     }
 
     // Date and rank of an accepted call.
     pub(crate) fn accept(&mut self, date: u32, rank: Rank)
-        ensures accepted { self.new ≡ (self.old.0, with_names self.old.1 self.old.1.names date (rank_number rank)) }
+        ensures { self.new ≡ in_state self.old (with_names self.old.state self.old.state.names date (rank_number rank)) }
     {
         self.last_date = date;
         self.last_rank = rank;

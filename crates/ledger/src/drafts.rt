@@ -8,9 +8,10 @@ ghost use Rattle.books.specs.Changes.{new_draft, with_draft};
 ghost use Rattle.ledger.specs.Answers.{carried_out};
 ghost use Rattle.books.specs.declared.outcome.Outcome.TheVariants.{Begun, Done};
 ghost use Rattle.ledger.specs.Answers.{outcome_of, outcome_with_slip, GivesBack};
+ghost use Rattle.ledger.specs.Kept.{in_state};
 
 use crate::Ledger;
-use crate::fault::fault_at;
+use crate::fault::{fault_at, reported};
 use crate::rank::Rank;
 use crate::slip::Slip;
 use booking::draft::Draft;
@@ -22,7 +23,7 @@ use values::flag::Flag;
 
 impl<P: Policy> Ledger<P> {
     fn check_beginning(&self, date: u32) -> Result<(), Refusal>
-        ensures { result ≡ unless (first_met (beginning_tests self.now.1 date)) tt }
+        ensures { result ≡ unless (first_met (beginning_tests self.now.state date)) tt }
     {
         self.check_no_draft()?;
         check_date(date)?;
@@ -31,8 +32,8 @@ impl<P: Policy> Ledger<P> {
     }
 
     fn start_draft(&mut self, source: u32, date: u32, flag: Flag) -> Slip
-        ensures slip { result.number ≡ self.old.1.transactions + 1 }
-        ensures drafted { self.new ≡ (self.old.0, with_draft self.old.1 (Some (new_draft source date flag))) }
+        ensures slip { result.number ≡ self.old.state.transactions + 1 }
+        ensures drafted { self.new ≡ in_state self.old (with_draft self.old.state (Some (new_draft source date flag))) }
     {
         self.draft = Some(Draft {
             line: source,
@@ -49,14 +50,13 @@ impl<P: Policy> Ledger<P> {
     pub(crate) fn begin(&mut self, source: u32, date: u32, flag: Flag) -> Result<Slip, Fault>
         ensures { (outcome_of (λ slip. Begun slip.number) result, self.new) ≡ carried_out P.Policy.order self.old (beginning source date flag) }
     {
-        self.check_beginning(date)
-            .map_err(|refusal| fault_at(source, refusal))?;
+        reported(source, self.check_beginning(date))?;
         Ok(self.start_draft(source, date, flag))
     }
 
     // Throws the draft of a slip away; refused, the slip comes back.
     pub(crate) fn tear(&mut self, slip: Slip) -> Result<(), (Slip, Fault)>
-        ensures { (outcome_with_slip (λ _. Done) result, self.new) ≡ carried_out P.Policy.order self.old (tearing slip.number) }
+        ensures answer { (outcome_with_slip (λ _. Done) result, self.new) ≡ carried_out P.Policy.order self.old (tearing slip.number) }
         ensures slip { GivesBack slip result }
     {
         if self.draft.is_none() || slip.number != self.transactions + 1 {

@@ -36,20 +36,23 @@ pub struct Ledger<P> {
 impl<P> Model for Ledger<P> {
     ghost use Rattle.std.specs.Prelude.{◌+◌, ◌≤◌};
     ghost use Rattle.record.specs.Layout.{most_rows};
-    ghost use Rattle.books.specs.States.{State};
+    ghost use Rattle.ledger.specs.Kept.{Kept};
     ghost use Rattle.ledger.specs.Ranks.{rank_number};
 
-    ghost Value = { P × State };
+    ghost Value = { Kept P };
 
-    ghost view = { λ l. (l.policy, record {
-      names = l.chart;
-      books = l.holdings;
-      draft = l.draft;
-      last_date = l.last_date;
-      last_rank = rank_number l.last_rank;
-      transactions = l.transactions;
-      rows = l.rows;
-    }) };
+    ghost view = { λ l. record {
+      policy = l.policy;
+      state = record {
+        names = l.chart;
+        books = l.holdings;
+        draft = l.draft;
+        last_date = l.last_date;
+        last_rank = rank_number l.last_rank;
+        transactions = l.transactions;
+        rows = l.rows;
+      };
+    } };
 
     ghost invariant = { λ l. (l.transactions ≤ l.rows) × ((l.rows ≤ most_rows) × (l.holdings.table.next ≤ l.rows + 1)) };
 }

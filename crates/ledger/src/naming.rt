@@ -15,9 +15,10 @@ ghost use Rattle.ledger.specs.CallTables.{given_and, declaring_tests, opening_te
 ghost use Rattle.ledger.specs.Answers.{carried_out};
 ghost use Rattle.books.specs.declared.outcome.Outcome.TheVariants.{Declared, Opened};
 ghost use Rattle.ledger.specs.Answers.{outcome_of};
+ghost use Rattle.ledger.specs.Kept.{in_state};
 
 use crate::Ledger;
-use crate::fault::fault_at;
+use crate::fault::reported;
 use crate::rank::Rank;
 use chart::table::{MOST_ACCOUNTS, MOST_COMMODITIES};
 use drafting::checks::{check_account_name, check_commodity_name, check_date, refuse_unless};
@@ -33,8 +34,8 @@ fn check_own_name(own: Option<&[u8]>) -> Result<(), Refusal>
 
 impl<P: Policy> Ledger<P> {
     fn check_declaring(&self, date: u32, name: &[u8]) -> Result<(), Refusal>
-        ensures checked { result ≡ unless (first_met (declaring_tests self.now.1 date name.now)) tt }
-        ensures allowed { OnOk result ((is_commodity_name name.now ≡ true) × (commodities_full self.now.1.names ≡ false)) }
+        ensures checked { result ≡ unless (first_met (declaring_tests self.now.state date name.now)) tt }
+        ensures allowed { OnOk result ((is_commodity_name name.now ≡ true) × (commodities_full self.now.state.names ≡ false)) }
     {
         self.check_no_draft()?;
         check_date(date)?;
@@ -44,15 +45,18 @@ impl<P: Policy> Ledger<P> {
             self.chart.commodity(name).is_none(),
             Refusal::CommodityDeclaredAlready,
         )?;
-        refuse_unless(self.chart.commodities() < MOST_COMMODITIES, Refusal::BooksFull)
+        refuse_unless(
+            self.chart.commodities() < MOST_COMMODITIES,
+            Refusal::BooksFull,
+        )
     }
 
     // One commodity more, where that is allowed.
     fn add_commodity(&mut self, date: u32, name: &[u8]) -> u8
         requires name { is_commodity_name name.now ≡ true }
-        requires room { commodities_full self.old.1.names ≡ false }
-        ensures number { result ≡ length self.old.1.names.commodities + 1 }
-        ensures named { self.new ≡ (self.old.0, with_names self.old.1 (with_commodity self.old.1.names name.now) date 0) }
+        requires room { commodities_full self.old.state.names ≡ false }
+        ensures number { result ≡ length self.old.state.names.commodities + 1 }
+        ensures named { self.new ≡ in_state self.old (with_names self.old.state (with_commodity self.old.state.names name.now) date 0) }
     {
         let number = self.chart.commodities() as u8 + 1;
         self.chart.declare(name);
@@ -64,14 +68,13 @@ impl<P: Policy> Ledger<P> {
     pub(crate) fn declare(&mut self, source: u32, date: u32, name: &[u8]) -> Result<u8, Fault>
         ensures { (outcome_of Declared result, self.new) ≡ carried_out P.Policy.order self.old (declaring source date name.now) }
     {
-        self.check_declaring(date, name)
-            .map_err(|refusal| fault_at(source, refusal))?;
+        reported(source, self.check_declaring(date, name))?;
         Ok(self.add_commodity(date, name))
     }
 
     // The number of the own commodity that is named, if one is.
     fn own_commodity(&self, own: Option<&[u8]>) -> Result<Option<u8>, Refusal>
-        ensures { Finds CommodityNotDeclared (given_and (not_declared self.now.1.names) (option_map (λ c. c.now) own.entry)) (option_map (λ c. number_or_0 (commodity_number self.now.1.names c.now)) own.entry) result }
+        ensures { Finds CommodityNotDeclared (given_and (not_declared self.now.state.names) (option_map (λ c. c.now) own.entry)) (option_map (λ c. number_or_0 (commodity_number self.now.state.names c.now)) own.entry) result }
     {
         let Some(name) = own else {
             return Ok(None);
@@ -89,8 +92,8 @@ impl<P: Policy> Ledger<P> {
         name: &[u8],
         own: Option<&[u8]>,
     ) -> Result<Option<u8>, Refusal>
-        ensures checked { result ≡ unless (first_met (opening_tests self.now.1 date name.now (option_map (λ c. c.now) own.entry))) (option_map (λ c. number_or_0 (commodity_number self.now.1.names c.now)) own.entry) }
-        ensures allowed { OnOk result ((is_account_name name.now ≡ true) × (accounts_full self.now.1.names ≡ false)) }
+        ensures checked { result ≡ unless (first_met (opening_tests self.now.state date name.now (option_map (λ c. c.now) own.entry))) (option_map (λ c. number_or_0 (commodity_number self.now.state.names c.now)) own.entry) }
+        ensures allowed { OnOk result ((is_account_name name.now ≡ true) × (accounts_full self.now.state.names ≡ false)) }
     {
         self.check_no_draft()?;
         check_date(date)?;
@@ -98,7 +101,10 @@ impl<P: Policy> Ledger<P> {
         check_own_name(own)?;
         self.check_forward(date, Rank::Naming)?;
         let own = self.own_commodity(own)?;
-        refuse_unless(self.chart.account(name).is_none(), Refusal::AccountOpenedBefore)?;
+        refuse_unless(
+            self.chart.account(name).is_none(),
+            Refusal::AccountOpenedBefore,
+        )?;
         refuse_unless(self.chart.accounts() < MOST_ACCOUNTS, Refusal::BooksFull)?;
         Ok(own)
     }
@@ -106,9 +112,9 @@ impl<P: Policy> Ledger<P> {
     // One account more, where that is allowed.
     fn add_account(&mut self, date: u32, name: &[u8], own: Option<u8>) -> u16
         requires name { is_account_name name.now ≡ true }
-        requires room { accounts_full self.old.1.names ≡ false }
-        ensures number { result ≡ length self.old.1.names.accounts + 1 }
-        ensures named { self.new ≡ (self.old.0, with_names self.old.1 (account_added name.now own self.old.1.names) date 0) }
+        requires room { accounts_full self.old.state.names ≡ false }
+        ensures number { result ≡ length self.old.state.names.accounts + 1 }
+        ensures named { self.new ≡ in_state self.old (with_names self.old.state (account_added name.now own self.old.state.names) date 0) }
     {
         let number = self.chart.accounts() as u16 + 1;
         self.chart.open(name, own);
@@ -126,9 +132,7 @@ impl<P: Policy> Ledger<P> {
     ) -> Result<u16, Fault>
         ensures { (outcome_of Opened result, self.new) ≡ carried_out P.Policy.order self.old (opening source date name.now (option_map (λ c. c.now) own.entry)) }
     {
-        let own = self
-            .check_opening(date, name, own)
-            .map_err(|refusal| fault_at(source, refusal))?;
+        let own = reported(source, self.check_opening(date, name, own))?;
         Ok(self.add_account(date, name, own))
     }
 }

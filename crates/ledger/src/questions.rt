@@ -13,7 +13,7 @@ use refusal::{Fault, Refusal};
 impl<P: Policy> Ledger<P> {
     // Whether an account and a commodity of these numbers are there; both are counted from 1.
     fn has(&self, account: u16, commodity: u8) -> bool
-        ensures { result ≡ not (nothing_there self.now.1.names account commodity) }
+        ensures { result ≡ not (nothing_there self.now.state.names account commodity) }
     {
         let opened = 1 <= account && account as usize <= self.chart.accounts();
         opened && 1 <= commodity && commodity as usize <= self.chart.commodities()
@@ -21,7 +21,7 @@ impl<P: Policy> Ledger<P> {
 
     // The plain balance and the units of the open lots.
     pub(crate) fn holding(&self, account: u16, commodity: u8) -> Result<i64, Fault>
-        ensures { result ≡ holding_of self.now.1 account commodity }
+        ensures { result ≡ holding_of self.now.state account commodity }
     {
         if !self.has(account, commodity) {
             return Err(fault_at(0, Refusal::NothingThere));
@@ -30,7 +30,7 @@ impl<P: Policy> Ledger<P> {
     }
 
     pub(crate) fn plain_balance(&self, account: u16, commodity: u8) -> Result<i64, Fault>
-        ensures { result ≡ plain_balance_of self.now.1 account commodity }
+        ensures { result ≡ plain_balance_of self.now.state account commodity }
     {
         if !self.has(account, commodity) {
             return Err(fault_at(0, Refusal::NothingThere));
@@ -39,7 +39,7 @@ impl<P: Policy> Ledger<P> {
     }
 
     pub(crate) fn counts(&self) -> Counts
-        ensures { result ≡ counts_of self.now.1 }
+        ensures { result ≡ counts_of self.now.state }
     {
         Counts {
             commodities: self.chart.commodities(),
@@ -53,7 +53,7 @@ impl<P: Policy> Ledger<P> {
 
     // The open lot that bears a serial.
     pub(crate) fn lot(&self, serial: u32) -> Result<LotRow, Fault>
-        ensures { result ≡ lot_of self.now.1 serial }
+        ensures { result ≡ lot_of self.now.state serial }
     {
         self.holdings
             .lots()

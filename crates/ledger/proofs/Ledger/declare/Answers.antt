@@ -1,26 +1,20 @@
-use Rattle.std.proofs.Common.{refl, ap}
-use Rattle.books.specs.declared.outcome.Outcome.TheVariants.{Declared}
+use Rattle.std.proofs.Common.{Err, refl, ap, ◌∙◌}
+use Rattle.std.proofs.lemmas.Result.{err_from_is_err_and}
+use Rattle.std.specs.Result.{result_map_both}
+use Rattle.booking.specs.Booking.{fault_at}
 use Rattle.books.specs.Calls.{declaring}
+use Rattle.books.specs.declared.outcome.Outcome.TheVariants.{Declared}
+use Rattle.ledger.specs.Answers.{outcome_of}
 use Rattle.ledger.specs.CallTables.{declaring_tests}
-use Rattle.ledger.specs.View.{view}
-use Rattle.ledger.proofs.Answering.{by_table, refused, accepted}
+use Rattle.ledger.proofs.Answering.{by_table, call_refused}
 use Rattle.ledger.proofs.Ledger.declare.Goals as goal
 
-pub returns-in-Ok : goal.returns-in-Ok
-returns-in-Ok g c =
-    let s = view c.args.self.now in
-    record {
-      defined =
-          accepted (g.P.Policy.order c.args.self.now.policy) s (declaring c.args.source c.args.date c.args.name.now) c.args.source (declaring_tests s c.args.date c.args.name.now) (by_table (g.P.Policy.order c.args.self.now.policy) s (declaring c.args.source c.args.date c.args.name.now) c.args.source (declaring_tests s c.args.date c.args.name.now) refl) _ _ c.in-Ok.ensures.checked _ _
-          (ap Declared c.add_commodity.ensures.number)
-          c.add_commodity.ensures.named;
-      policy = c.add_commodity.ensures.policy;
-    }
-
-pub returns-in-Err : goal.returns-in-Err
-returns-in-Err g c =
-    let s = view c.args.self.now in
-    record {
-      defined = refused (g.P.Policy.order c.args.self.now.policy) s (declaring c.args.source c.args.date c.args.name.now) c.args.source (declaring_tests s c.args.date c.args.name.now) (by_table (g.P.Policy.order c.args.self.now.policy) s (declaring c.args.source c.args.date c.args.name.now) c.args.source (declaring_tests s c.args.date c.args.name.now) refl) _ _ _ c.in-Err.ensures.checked c.fault_at.ensures;
-      policy = refl;
-    }
+pub returns-in_err-reported : goal.returns-in_err-reported
+returns-in_err-reported g c =
+    let o = g.P.Policy.order c.args.self.now.policy in
+    let s = c.args.self.now.state in
+    let call = declaring c.args.source c.args.date c.args.name.now in
+    let ts = declaring_tests s c.args.date c.args.name.now in
+    let p = err_from_is_err_and c.from_residual.result c.from_residual.ensures.1 in
+    let told = c.in_err-reported.ensures ∙ ap (result_map_both (λ y. y) (fault_at c.args.source)) c.check_declaring.ensures.checked in
+    call_refused g.P.Policy.order c.args.self.now call c.args.source ts (by_table o s call c.args.source ts refl) (tt {0}) _ told _ (ap (outcome_of Declared) (p.1 ∙ ap Err p.2))
