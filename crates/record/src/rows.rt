@@ -5,7 +5,7 @@ ghost use Rattle.record.specs.Layout.{kind_number, lot_of};
 use values::flag::Flag;
 
 // The lot of a purchase or a draw, as its row states it.
-#[derive(Clone, Copy)]
+#[derive(Clone, Copy, PartialEq, Eq, Debug, Default)]
 pub struct LotFields {
     pub cost: u32,
     pub acquired: u32,
@@ -14,7 +14,7 @@ pub struct LotFields {
 }
 
 // What a row stands for. Only purchases and draws have a lot.
-#[derive(Clone, Copy)]
+#[derive(Clone, Copy, PartialEq, Eq, Debug)]
 pub enum RowKind {
     Plain,
     Purchase(LotFields),
@@ -54,12 +54,7 @@ impl RowKind {
     {
         match self {
             RowKind::Purchase(lot) | RowKind::Draw(lot) => lot,
-            RowKind::Plain | RowKind::FilledBlank => LotFields {
-                cost: 0,
-                acquired: 0,
-                serial: 0,
-                currency: 0,
-            },
+            RowKind::Plain | RowKind::FilledBlank => LotFields::default(),
         }
     }
 }

@@ -42,6 +42,7 @@ fn write_rows(out: &mut [u8], rows: &[Row])
     ensures bytes { out.new ≡ rows_bytes rows.now ++ drop (row_length * length rows.now) out.old }
     ensures sized { AllSized rows.now }
 {
+    // By index: of what is written through `chunks_exact_mut` the library promises only the length, so the bytes are not proved.
     for (i, row) in rows.iter().enumerate() {
         write_row(&mut out[ROW_LEN * i..ROW_LEN * i + ROW_LEN], row);
     }

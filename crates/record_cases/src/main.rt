@@ -21,58 +21,15 @@ const LOT: LotFields = LotFields {
 
 fn main(rt: HostRuntime) -> io::Result<()> {
     let mut book = [0xee; BOOK_LEN];
-    let r = write_header(
-        &mut book,
-        0,
-        Header {
-            policy: 10,
-            transactions: 0,
-            next: 1,
-        },
-    );
+    let r = write_header(&mut book, 0, header(0, 1));
     show(&rt, "header of a new ledger", r, &book)?;
-    let r = append_rows(
-        &mut book,
-        0,
-        &purchase(),
-        Header {
-            policy: 10,
-            transactions: 1,
-            next: 2,
-        },
-    );
+    let r = append_rows(&mut book, 0, &purchase(), header(1, 2));
     show(&rt, "a purchase and its blank", r, &book)?;
-    let r = append_rows(
-        &mut book,
-        2,
-        &[draw()],
-        Header {
-            policy: 10,
-            transactions: 2,
-            next: 2,
-        },
-    );
+    let r = append_rows(&mut book, 2, &[draw()], header(2, 2));
     show(&rt, "a draw", r, &book)?;
-    let r = append_rows(
-        &mut book,
-        3,
-        &[draw()],
-        Header {
-            policy: 10,
-            transactions: 3,
-            next: 2,
-        },
-    );
+    let r = append_rows(&mut book, 3, &[draw()], header(3, 2));
     show(&rt, "a row too many for this record", r, &book)?;
-    let r = write_header(
-        &mut book,
-        4,
-        Header {
-            policy: 10,
-            transactions: 3,
-            next: 2,
-        },
-    );
+    let r = write_header(&mut book, 4, header(3, 2));
     show(&rt, "a header for more rows than there is room", r, &book)?;
     for (len, rows) in [
         (23, 0),
@@ -91,6 +48,15 @@ fn main(rt: HostRuntime) -> io::Result<()> {
     Ok(())
 }
 
+// Whole-lot over FIFO, so many transactions, and the serial of the next lot.
+fn header(transactions: u32, next: u32) -> Header {
+    Header {
+        policy: 10,
+        transactions,
+        next,
+    }
+}
+
 // Four sensors at 12.50, and the blank that pays for them.
 fn purchase() -> [Row; 2] {
     let bought = Row {
@@ -105,13 +71,11 @@ fn purchase() -> [Row; 2] {
     };
     let filled = Row {
         line: 8,
-        transaction: 1,
-        date: 20240304,
         account: 2,
         commodity: 1,
         kind: RowKind::FilledBlank,
         units: -5000,
-        flag: Flag::Incomplete,
+        ..bought
     };
     [bought, filled]
 }
@@ -132,19 +96,28 @@ fn draw() -> Row {
 
 // 0 where a call was accepted, or the refusal's number.
 fn number(r: Result<(), Refusal>) -> u8 {
-    match r {
-        Ok(()) => 0,
-        Err(refusal) => refusal.number(),
-    }
+    r.err().map_or(0, |refusal| refusal.number())
 }
 
-fn show(rt: &HostRuntime, what: &str, r: Result<(), Refusal>, book: &[u8]) -> io::Result<()> {
+fn show(
+    rt: &HostRuntime,
+    what: &str,
+    r: Result<(), Refusal>,
+    book: &[u8; BOOK_LEN],
+) -> io::Result<()> {
     println!(rt; "{what}: {}", number(r))?;
-    for (i, b) in book.iter().enumerate() {
-        if i >= HEADER_LEN && (i - HEADER_LEN) % ROW_LEN == 0 {
-            println!(rt; "")?;
-        }
-        print!(rt; "{b:02x}")?;
+    let (header, rows) = book.split_at(HEADER_LEN);
+    show_bytes(rt, header)?;
+    for row in rows.chunks(ROW_LEN) {
+        println!(rt; "")?;
+        show_bytes(rt, row)?;
     }
     println!(rt; "")
+}
+
+fn show_bytes(rt: &HostRuntime, bytes: &[u8]) -> io::Result<()> {
+    for b in bytes {
+        print!(rt; "{b:02x}")?;
+    }
+    Ok(())
 }

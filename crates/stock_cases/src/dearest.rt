@@ -30,8 +30,7 @@ impl Policy for Dearest {
     }
 
     fn before(&self, _units: u32, a: &LotRow, b: &LotRow) -> bool {
-        a.key.cost.number > b.key.cost.number
-            || (a.key.cost.number == b.key.cost.number && a.serial < b.serial)
+        (b.key.cost.number, a.serial) < (a.key.cost.number, b.serial)
     }
 
     fn settles(&self, question: &Question) -> bool {
