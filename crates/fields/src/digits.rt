@@ -10,10 +10,7 @@ pub(crate) fn read_digits(text: &[u8]) -> Option<u32>
 {
     let mut n: u32 = 0;
     for b in text {
-        if !b.is_ascii_digit() {
-            return None;
-        }
-        n = n * 10 + (*b - b'0') as u32;
+        n = n * 10 + char::from(*b).to_digit(10)?;
     }
     Some(n)
 }
