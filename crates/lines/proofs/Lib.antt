@@ -1,4 +1,5 @@
 pub mod Separators
+pub mod Keywords
 pub mod Journals
 pub mod Fronts
 pub mod Steps

@@ -4,7 +4,7 @@ use fields::field::Field;
 use values::flag::Flag;
 
 // The booking method that the option line names.
-#[derive(Clone, Copy)]
+#[derive(Clone, Copy, Debug, PartialEq, Eq)]
 pub enum Method {
     Strict,
     Fifo,

@@ -15,10 +15,3 @@ pub(crate) enum Shape<'a> {
     Date(Field<'a>),
     Both(Words<'a>, Field<'a>),
 }
-
-// A quoted text, and the index behind its closing quote.
-#[derive(Clone, Copy)]
-pub(crate) struct Quoted<'a> {
-    pub(crate) text: Field<'a>,
-    pub(crate) end: usize,
-}
