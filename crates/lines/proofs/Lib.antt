@@ -1,3 +1,4 @@
+pub mod Bytes
 pub mod Separators
 pub mod Keywords
 pub mod Journals

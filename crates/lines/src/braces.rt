@@ -99,15 +99,27 @@ fn shape_of<'a>(inside: Part<'a>) -> Option<Shape<'a>>
     ensures { option_map shape_seen result ≡ shape (seen inside.entry.field) }
 {
     if inside.field.text.is_empty() {
-        return Some(Shape::Empty);
+        return Some(Shape {
+            cost: None,
+            date: None,
+        });
     }
     if let Some((cost, date)) = split_parts(inside) {
-        return Some(Shape::Both(split_words(cost)?, one_word(date)?));
+        return Some(Shape {
+            cost: Some(split_words(cost)?),
+            date: Some(one_word(date)?),
+        });
     }
     if let Some(date) = one_word(inside.field) {
-        return Some(Shape::Date(date));
+        return Some(Shape {
+            cost: None,
+            date: Some(date),
+        });
     }
-    Some(Shape::Cost(split_words(inside)?))
+    Some(Shape {
+        cost: Some(split_words(inside)?),
+        date: None,
+    })
 }
 
 #[tactic(auto, unfolding(crate::specs::Braces::cost_in))]
@@ -137,16 +149,9 @@ fn read_lot_date(part: Field<'_>) -> Result<u32, LineFault>
 fn read_shape<'a>(shape: Shape<'a>, brace: usize) -> Result<Braces<'a>, LineFault>
     ensures { map_ok braces_said result ≡ shaped brace (shape_seen shape.entry) }
 {
-    match shape {
-        Shape::Empty => Ok(Braces::Empty),
-        Shape::Cost(words) => Ok(Braces::Cost(read_cost(words, brace)?)),
-        Shape::Date(part) => Ok(Braces::Date(read_lot_date(part)?)),
-        Shape::Both(words, part) => {
-            let cost = read_cost(words, brace)?;
-            let date = read_lot_date(part)?;
-            Ok(Braces::CostAndDate(cost, date))
-        }
-    }
+    let cost = shape.cost.map(|words| read_cost(words, brace)).transpose()?;
+    let date = shape.date.map(read_lot_date).transpose()?;
+    Ok(Braces { cost, date })
 }
 
 // The text between braces; its shape comes before its fields.

@@ -19,13 +19,11 @@ pub struct Cost<'a> {
     pub commodity: Field<'a>,
 }
 
-// What a posting's braces say: nothing, a cost, a date, or both.
+// What a posting's braces say of the lots that are meant.
 #[derive(Clone, Copy)]
-pub enum Braces<'a> {
-    Empty,
-    Cost(Cost<'a>),
-    Date(u32),
-    CostAndDate(Cost<'a>, u32),
+pub struct Braces<'a> {
+    pub cost: Option<Cost<'a>>,
+    pub date: Option<u32>,
 }
 
 // A posting's amount, with braces where it speaks of lots.

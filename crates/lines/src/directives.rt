@@ -4,7 +4,7 @@ ghost use Rattle.std.specs.Option.{option_map};
 ghost use Rattle.fields.specs.Results.{map_ok};
 ghost use Rattle.fields.specs.Spots.{seen};
 ghost use Rattle.lines.specs.Said.{said};
-ghost use Rattle.lines.specs.Directives.{commodity_from, own_from, open_from, close_from, balance_from, transaction_from, dated_from, dated_line, keyword_named, method_named, method_from, is_method_option, option_from, directive_line};
+ghost use Rattle.lines.specs.Directives.{commodity_from, own_from, open_from, close_from, balance_from, transaction_from, dated_from, dated_line, keyword_named, method_named, method_from, option_from, directive_line};
 
 use crate::cursor::Cursor;
 use crate::directive::{Directive, Method};
@@ -163,19 +163,12 @@ fn read_method<'a>(mut line: Cursor<'a>) -> Result<Directive<'a>, LineFault>
     Ok(Directive::BookingMethod(method))
 }
 
-#[tactic(auto, unfolding(crate::specs::Directives::is_method_option))]
-fn names_method(option: &[u8]) -> bool
-    ensures { result ≡ is_method_option option.now }
-{
-    same(option, b"booking_method")
-}
-
-#[tactic(auto, unfolding(crate::specs::Directives::option_from))]
+#[tactic(auto, unfolding(crate::specs::Directives::option_from, crate::specs::Directives::is_method_option))]
 fn read_option<'a>(mut line: Cursor<'a>) -> Result<Directive<'a>, LineFault>
     ensures { map_ok said result ≡ option_from line.entry.bytes.now line.entry.at }
 {
     let name = line.next_quoted()?;
-    if !names_method(name.text) {
+    if !same(name.text, b"booking_method") {
         return Err(LineFault::Form(name.place));
     }
     read_method(line)

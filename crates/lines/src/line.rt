@@ -1,10 +1,10 @@
 // One line of a journal: its kind, and what it says.
-ghost use Rattle.std.specs.Prelude.{◌≡◌};
+ghost use Rattle.std.specs.Prelude.{◌≡◌, Ok};
 ghost use Rattle.std.specs.Option.{option_map};
 ghost use Rattle.fields.specs.Results.{map_ok};
 ghost use Rattle.lines.specs.Grammar.{ReadsExactly};
 ghost use Rattle.lines.specs.Said.{said};
-ghost use Rattle.lines.specs.Lines.{line_kind, wrong_byte, posting_line, other_line, by_kind, line_says};
+ghost use Rattle.lines.specs.Lines.{line_kind, wrong_byte, unless_wrong, posting_line, other_line, by_kind, line_says};
 
 use crate::directive::Directive;
 use crate::directives::read_directive;
@@ -37,35 +37,32 @@ pub fn kind_of(line: &[u8]) -> LineKind
     }
 }
 
-// The place of the first wrong byte, or of the first past the 120 that a line may have.
+// Wrong is the first byte outside 32 to 126, or the first past the 120 that a line may have.
 #[tactic(auto, unfolding(crate::specs::Lines::wrong_byte))]
-fn wrong_place(line: &[u8]) -> Option<usize>
-    ensures { result ≡ wrong_byte line.now }
+fn check_bytes(line: &[u8]) -> Result<(), LineFault>
+    ensures { result ≡ unless_wrong (wrong_byte line.now) (Ok tt) }
 {
     let good = run_of(ByteClass::Printable, line);
     if good == line.len() && line.len() <= 120 {
-        return None;
+        Ok(())
+    } else {
+        Err(LineFault::WrongByte(good.min(120) + 1))
     }
-    Some(good.min(120) + 1)
 }
 
-#[tactic(auto, unfolding(crate::specs::Lines::posting_line))]
+#[tactic(auto, using(crate::proofs::Bytes::not_wrong), unfolding(crate::specs::Lines::posting_line))]
 fn read_posting_line<'a>(line: &'a [u8]) -> Result<Directive<'a>, LineFault>
     ensures { map_ok said result ≡ posting_line line.now }
 {
-    if let Some(place) = wrong_place(line) {
-        return Err(LineFault::WrongByte(place));
-    }
+    check_bytes(line)?;
     Ok(Directive::Posting(read_posting(line)?))
 }
 
-#[tactic(auto, unfolding(crate::specs::Lines::other_line))]
+#[tactic(auto, using(crate::proofs::Bytes::not_wrong), unfolding(crate::specs::Lines::other_line))]
 fn read_other_line<'a>(line: &'a [u8], number: u32) -> Result<Directive<'a>, LineFault>
     ensures { map_ok said result ≡ other_line number line.now }
 {
-    if let Some(place) = wrong_place(line) {
-        return Err(LineFault::WrongByte(place));
-    }
+    check_bytes(line)?;
     read_directive(line, number)
 }
 

@@ -9,9 +9,7 @@ pub(crate) struct Words<'a> {
 }
 
 #[derive(Clone, Copy)]
-pub(crate) enum Shape<'a> {
-    Empty,
-    Cost(Words<'a>),
-    Date(Field<'a>),
-    Both(Words<'a>, Field<'a>),
+pub(crate) struct Shape<'a> {
+    pub(crate) cost: Option<Words<'a>>,
+    pub(crate) date: Option<Field<'a>>,
 }
