@@ -4,7 +4,7 @@ ghost use Rattle.std.specs.Option.{option_map};
 ghost use Rattle.fields.specs.Results.{map_ok};
 ghost use Rattle.fields.specs.Spots.{seen};
 ghost use Rattle.lines.specs.Said.{cost_said, braces_said};
-ghost use Rattle.lines.specs.Braces.{separates, before_separator, is_word, two_words, word_at, part_before, part_after, shape, cost_in, date_in, inside, shaped};
+ghost use Rattle.lines.specs.Braces.{separates, before_separator, is_word, two_words, word_at, part_before, part_after, shape, cost_in, inside, shaped};
 ghost use Rattle.lines.specs.Shapes.{words_seen, shape_seen};
 
 use crate::directive::{Braces, Cost};
@@ -23,25 +23,24 @@ pub(crate) struct Part<'a> {
     ghost near: { field.place < 2 ^ 63 },
 }
 
-// Whether a comma stands at an index, and a space behind it.
-fn is_separator(text: &[u8], i: usize) -> bool
-    requires { i < length text.now }
-    ensures { result ≡ separates text.now i }
+// Whether a comma stands first, and a space behind it.
+fn opens_separator(text: &[u8]) -> bool
+    ensures { result ≡ separates text.now 0 }
 {
-    byte_at(text, i) == b',' && byte_at(text, i + 1) == b' '
+    matches!(text, [b',', b' ', ..])
 }
 
 // How many bytes stand before the first comma with a space behind it, if there is one.
 fn separator(text: &[u8]) -> Option<usize>
     ensures { MatchOption result (before_separator text.now ≡ length text.now) (λ n. (n ≡ before_separator text.now) × (n < length text.now)) }
 {
-    (0..text.len()).find(|i| is_separator(text, *i))
+    (0..text.len()).find(|n| opens_separator(after(text, *n)))
 }
 
 fn is_one_word(text: &[u8]) -> bool
     ensures { result ≡ is_word text.now }
 {
-    text.len() >= 1 && all_of(ByteClass::Except(b' '), text)
+    !text.is_empty() && all_of(ByteClass::Except(b' '), text)
 }
 
 // The two words of a cost.
@@ -133,24 +132,18 @@ fn read_cost<'a>(words: Words<'a>, brace: usize) -> Result<Cost<'a>, LineFault>
     let commodity = read_commodity_name(words.commodity)?;
     Ok(Cost {
         number: words.number,
-        hundredths: amount.hundredths(),
+        amount,
         commodity,
     })
 }
 
-#[tactic(auto, unfolding(crate::specs::Braces::date_in))]
-fn read_lot_date(part: Field<'_>) -> Result<u32, LineFault>
-    ensures { result ≡ date_in (seen part.entry) }
-{
-    Ok(read_date(part)?.number())
-}
-
 // The parts from left to right.
+#[tactic(auto, unfolding(crate::specs::Braces::date_in))]
 fn read_shape<'a>(shape: Shape<'a>, brace: usize) -> Result<Braces<'a>, LineFault>
     ensures { map_ok braces_said result ≡ shaped brace (shape_seen shape.entry) }
 {
     let cost = shape.cost.map(|words| read_cost(words, brace)).transpose()?;
-    let date = shape.date.map(read_lot_date).transpose()?;
+    let date = shape.date.map(read_date).transpose()?;
     Ok(Braces { cost, date })
 }
 

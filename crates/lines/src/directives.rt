@@ -14,11 +14,12 @@ use fields::date::read_date;
 use fields::field::Field;
 use fields::name::{read_account_name, read_commodity_name};
 use fields::number::read_number;
+use values::date::Date;
 use values::flag::Flag;
 
 #[tactic(auto, unfolding(crate::specs::Directives::commodity_from))]
-fn read_commodity<'a>(mut line: Cursor<'a>, date: u32) -> Result<Directive<'a>, LineFault>
-    ensures { map_ok said result ≡ commodity_from line.entry.bytes.now date line.entry.at }
+fn read_commodity<'a>(mut line: Cursor<'a>, date: Date) -> Result<Directive<'a>, LineFault>
+    ensures { map_ok said result ≡ commodity_from line.entry.bytes.now date.number line.entry.at }
 {
     let name = read_commodity_name(line.next_field())?;
     line.read_end()?;
@@ -39,8 +40,8 @@ fn read_own<'a>(mut line: Cursor<'a>) -> Result<Option<Field<'a>>, LineFault>
 }
 
 #[tactic(auto, unfolding(crate::specs::Directives::open_from))]
-fn read_open<'a>(mut line: Cursor<'a>, date: u32) -> Result<Directive<'a>, LineFault>
-    ensures { map_ok said result ≡ open_from line.entry.bytes.now date line.entry.at }
+fn read_open<'a>(mut line: Cursor<'a>, date: Date) -> Result<Directive<'a>, LineFault>
+    ensures { map_ok said result ≡ open_from line.entry.bytes.now date.number line.entry.at }
 {
     let account = read_account_name(line.next_field())?;
     let commodity = read_own(line)?;
@@ -52,8 +53,8 @@ fn read_open<'a>(mut line: Cursor<'a>, date: u32) -> Result<Directive<'a>, LineF
 }
 
 #[tactic(auto, unfolding(crate::specs::Directives::close_from))]
-fn read_close<'a>(mut line: Cursor<'a>, date: u32) -> Result<Directive<'a>, LineFault>
-    ensures { map_ok said result ≡ close_from line.entry.bytes.now date line.entry.at }
+fn read_close<'a>(mut line: Cursor<'a>, date: Date) -> Result<Directive<'a>, LineFault>
+    ensures { map_ok said result ≡ close_from line.entry.bytes.now date.number line.entry.at }
 {
     let account = read_account_name(line.next_field())?;
     line.read_end()?;
@@ -61,8 +62,8 @@ fn read_close<'a>(mut line: Cursor<'a>, date: u32) -> Result<Directive<'a>, Line
 }
 
 #[tactic(auto, unfolding(crate::specs::Directives::balance_from))]
-fn read_balance<'a>(mut line: Cursor<'a>, date: u32) -> Result<Directive<'a>, LineFault>
-    ensures { map_ok said result ≡ balance_from line.entry.bytes.now date line.entry.at }
+fn read_balance<'a>(mut line: Cursor<'a>, date: Date) -> Result<Directive<'a>, LineFault>
+    ensures { map_ok said result ≡ balance_from line.entry.bytes.now date.number line.entry.at }
 {
     let account = read_account_name(line.next_field())?;
     let number = line.next_field();
@@ -73,7 +74,7 @@ fn read_balance<'a>(mut line: Cursor<'a>, date: u32) -> Result<Directive<'a>, Li
         date,
         account,
         number,
-        hundredths: amount.hundredths(),
+        amount,
         commodity,
     })
 }
@@ -81,10 +82,10 @@ fn read_balance<'a>(mut line: Cursor<'a>, date: u32) -> Result<Directive<'a>, Li
 #[tactic(auto, unfolding(crate::specs::Directives::transaction_from))]
 fn read_transaction<'a>(
     mut line: Cursor<'a>,
-    date: u32,
+    date: Date,
     flag: Flag,
 ) -> Result<Directive<'a>, LineFault>
-    ensures { map_ok said result ≡ transaction_from line.entry.bytes.now date flag line.entry.at }
+    ensures { map_ok said result ≡ transaction_from line.entry.bytes.now date.number flag line.entry.at }
 {
     let text = line.next_quoted()?;
     line.read_end()?;
@@ -117,8 +118,8 @@ fn keyword_of(word: &[u8]) -> Option<Keyword>
 
 // The word behind the date, and what belongs to it.
 #[tactic(auto, using(crate::proofs::Keywords::by_keyword_named), unfolding(crate::specs::Directives::dated_from))]
-fn read_by_word<'a>(mut line: Cursor<'a>, date: u32) -> Result<Directive<'a>, LineFault>
-    ensures { map_ok said result ≡ dated_from line.entry.bytes.now date line.entry.at }
+fn read_by_word<'a>(mut line: Cursor<'a>, date: Date) -> Result<Directive<'a>, LineFault>
+    ensures { map_ok said result ≡ dated_from line.entry.bytes.now date.number line.entry.at }
 {
     let word = line.next_field();
     match keyword_of(word.text) {
@@ -137,7 +138,7 @@ fn read_dated<'a>(line: &'a [u8]) -> Result<Directive<'a>, LineFault>
 {
     let mut line = Cursor::start(line);
     let date = read_date(line.next_field())?;
-    read_by_word(line, date.number())
+    read_by_word(line, date)
 }
 
 fn method_of(name: &[u8]) -> Option<Method>

@@ -65,7 +65,7 @@ fn read_units<'a>(mut line: Cursor<'a>) -> Result<Units<'a>, LineFault>
     let braces = read_lot(line)?;
     Ok(Units {
         number,
-        hundredths: amount.hundredths(),
+        amount,
         commodity,
         braces,
     })

@@ -5,6 +5,8 @@ use fields::field::Field;
 use lines::directive::{Braces, Cost, Directive, Method, Posting, Units};
 use refusal::Fault;
 use std::fmt;
+use values::amount::Amount;
+use values::date::Date;
 use values::flag::Flag;
 
 // An amount in hundredths, with two decimals.
@@ -49,6 +51,18 @@ impl fmt::Display for Listed<&[u8]> {
     }
 }
 
+impl fmt::Display for Listed<Amount> {
+    fn fmt<W: fmt::Write>(&self, f: &mut fmt::Formatter<W>) -> fmt::Result {
+        write!(f, "{}", Decimal(self.0.hundredths()))
+    }
+}
+
+impl fmt::Display for Listed<Date> {
+    fn fmt<W: fmt::Write>(&self, f: &mut fmt::Formatter<W>) -> fmt::Result {
+        write!(f, "{}", Day(self.0.number()))
+    }
+}
+
 impl fmt::Display for Listed<Field<'_>> {
     fn fmt<W: fmt::Write>(&self, f: &mut fmt::Formatter<W>) -> fmt::Result {
         write!(f, "{}", Listed(self.0.text))
@@ -77,7 +91,7 @@ impl fmt::Display for Listed<Flag> {
 impl fmt::Display for Listed<Cost<'_>> {
     fn fmt<W: fmt::Write>(&self, f: &mut fmt::Formatter<W>) -> fmt::Result {
         let cost = self.0;
-        write!(f, "{} {}", Decimal(cost.hundredths), Listed(cost.commodity))
+        write!(f, "{} {}", Listed(cost.amount), Listed(cost.commodity))
     }
 }
 
@@ -92,7 +106,7 @@ impl fmt::Display for Listed<Braces<'_>> {
             write!(f, ", ")?;
         }
         if let Some(date) = braces.date {
-            write!(f, "{}", Day(date))?;
+            write!(f, "{}", Listed(date))?;
         }
         write!(f, "}}")
     }
@@ -101,12 +115,7 @@ impl fmt::Display for Listed<Braces<'_>> {
 impl fmt::Display for Listed<Units<'_>> {
     fn fmt<W: fmt::Write>(&self, f: &mut fmt::Formatter<W>) -> fmt::Result {
         let units = self.0;
-        write!(
-            f,
-            "{} {}",
-            Decimal(units.hundredths),
-            Listed(units.commodity)
-        )?;
+        write!(f, "{} {}", Listed(units.amount), Listed(units.commodity))?;
         if let Some(braces) = units.braces {
             write!(f, " {}", Listed(braces))?;
         }
@@ -133,40 +142,40 @@ impl fmt::Display for Listed<Directive<'_>> {
                 write!(f, "option booking_method {}", Listed(method))
             }
             Directive::Commodity { date, name } => {
-                write!(f, "commodity {} {}", Day(date), Listed(name))
+                write!(f, "commodity {} {}", Listed(date), Listed(name))
             }
             Directive::Open {
                 date,
                 account,
                 commodity,
             } => {
-                write!(f, "open {} {}", Day(date), Listed(account))?;
+                write!(f, "open {} {}", Listed(date), Listed(account))?;
                 if let Some(own) = commodity {
                     write!(f, " {}", Listed(own))?;
                 }
                 Ok(())
             }
             Directive::Close { date, account } => {
-                write!(f, "close {} {}", Day(date), Listed(account))
+                write!(f, "close {} {}", Listed(date), Listed(account))
             }
             Directive::Balance {
                 date,
                 account,
-                hundredths,
+                amount,
                 commodity,
                 ..
             } => write!(
                 f,
                 "balance {} {} {} {}",
-                Day(date),
+                Listed(date),
                 Listed(account),
-                Decimal(hundredths),
+                Listed(amount),
                 Listed(commodity)
             ),
             Directive::Transaction { date, flag, text } => write!(
                 f,
                 "transaction {} {} \"{}\"",
-                Day(date),
+                Listed(date),
                 Listed(flag),
                 Listed(text)
             ),
