@@ -20,17 +20,12 @@ pub fn ends_field(rest: &[u8]) -> bool
 fn quoted_length(text: &[u8]) -> Option<usize>
     ensures { result ≡ quoted_length text.now }
 {
-    if byte_at(text, 0) != b'"' {
-        return None;
-    }
     let n = run_of(ByteClass::QuotedText, after(text, 1));
-    if n > 40 || byte_at(text, n + 1) != b'"' {
-        return None;
-    }
-    if !ends_field(after(text, n + 2)) {
-        return None;
-    }
-    Some(n)
+    let is_quoted = byte_at(text, 0) == b'"'
+        && n <= 40
+        && byte_at(text, n + 1) == b'"'
+        && ends_field(after(text, n + 2));
+    is_quoted.then_some(n)
 }
 
 // The text between the quotes that open the rest of a line, at the place of the first quote.
