@@ -56,6 +56,13 @@ part_after n s = record { text = drop n s.text; place = s.place + n }
 abbrev pub part_before : ℕ → Spot → Spot
 part_before n s = record { text = take n s.text; place = s.place }
 
+-- the parts before and behind the first comma with a space behind it, if there is one
+abbrev pub parts_cut : Spot → Option (Spot × Spot)
+parts_cut s =
+    cond (nat_lt (before_separator s.text) (length s.text))
+    (Some (part_before (before_separator s.text) s, part_after (before_separator s.text + 2) s))
+    None
+
 -- a cost, then a comma and a space, then a date
 unfoldable pub two_parts : Spot → ℕ → Option Shape
 two_parts s n = bind (two_words (part_before n s)) (λ w. option_map (λ d. both_parts w d) (word_at (part_after (n + 2) s)))

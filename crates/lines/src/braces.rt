@@ -4,7 +4,7 @@ ghost use Rattle.std.specs.Option.{option_map};
 ghost use Rattle.fields.specs.Results.{map_ok};
 ghost use Rattle.fields.specs.Spots.{seen};
 ghost use Rattle.lines.specs.Said.{cost_said, braces_said};
-ghost use Rattle.lines.specs.Braces.{separates, before_separator, is_word, two_words, word_at, part_before, part_after, shape, cost_in, inside, shaped};
+ghost use Rattle.lines.specs.Braces.{separates, before_separator, is_word, two_words, word_at, parts_cut, shape, cost_in, inside, shaped};
 ghost use Rattle.lines.specs.Shapes.{words_seen, shape_seen};
 
 use crate::directive::{Braces, Cost};
@@ -76,7 +76,7 @@ fn one_word<'a>(part: Field<'a>) -> Option<Field<'a>>
 
 // The parts before and behind the first comma with a space behind it, if there is one.
 fn split_parts<'a>(inside: Part<'a>) -> Option<(Part<'a>, Field<'a>)>
-    ensures { MatchOption result (length inside.entry.field.text.now ≤ before_separator inside.entry.field.text.now) (λ p. (before_separator inside.entry.field.text.now < length inside.entry.field.text.now) × (seen p.0.field ≡ part_before (before_separator inside.entry.field.text.now) (seen inside.entry.field)) × (seen p.1 ≡ part_after (before_separator inside.entry.field.text.now + 2) (seen inside.entry.field))) }
+    ensures { option_map (λ p. (seen p.0.field, seen p.1)) result ≡ parts_cut (seen inside.entry.field) }
 {
     let Field { text, place } = inside.field;
     let n = separator(text)?;
