@@ -6,7 +6,7 @@ ghost use Rattle.std.specs.Str.{bytes_eq};
 ghost use Rattle.byte_text.specs.Classes.{in_class, run_length, all_in};
 
 // The classes of bytes that the journal's grammar speaks of.
-#[derive(Clone, Copy)]
+#[derive(Clone, Copy, Debug, PartialEq, Eq)]
 pub enum ByteClass {
     Printable,
     Space,
@@ -21,12 +21,12 @@ impl ByteClass {
         ensures { result ≡ in_class self b }
     {
         match self {
-            ByteClass::Printable => b >= 32 && b <= 126,
+            ByteClass::Printable => matches!(b, b' '..=b'~'),
             ByteClass::Space => b == b' ',
             ByteClass::Except(stop) => b != stop,
             ByteClass::CommodityName => b.is_ascii_uppercase() || b.is_ascii_digit(),
-            ByteClass::AccountPart => b.is_ascii_alphabetic() || b.is_ascii_digit() || b == b'-',
-            ByteClass::QuotedText => b != b'"' && b != b'\\',
+            ByteClass::AccountPart => b.is_ascii_alphanumeric() || b == b'-',
+            ByteClass::QuotedText => !matches!(b, b'"' | b'\\'),
         }
     }
 }
@@ -36,7 +36,7 @@ pub fn front(text: &[u8], n: usize) -> &[u8]
     ensures value { result.now ≡ take n text.now }
     ensures len { length result.now ≡ min n (length text.now) }
 {
-    if n < text.len() { &text[0..n] } else { text }
+    text.get(..n).unwrap_or(text)
 }
 
 // What stands after the first n bytes.
@@ -44,14 +44,14 @@ pub fn after(text: &[u8], n: usize) -> &[u8]
     ensures value { result.now ≡ drop n text.now }
     ensures len { length result.now ≡ length text.now - n }
 {
-    if n < text.len() { &text[n..] } else { &[] }
+    text.get(n..).unwrap_or(&[])
 }
 
 // The byte at an index, 0 past the end.
 pub fn byte_at(text: &[u8], i: usize) -> u8
     ensures { result ≡ slice_index text.now i }
 {
-    if i < text.len() { text[i] } else { 0 }
+    text.get(i).copied().unwrap_or(0)
 }
 
 // How many bytes of a class stand first.
@@ -59,19 +59,14 @@ pub fn run_of(class: ByteClass, text: &[u8]) -> usize
     ensures value { result ≡ run_length class text.now }
     ensures within { result ≤ length text.now }
 {
-    for (i, b) in text.iter().enumerate() {
-        if !class.has(*b) {
-            return i;
-        }
-    }
-    text.len()
+    text.iter().take_while(|b| class.has(**b)).count()
 }
 
 // Whether all bytes are of a class.
 pub fn all_of(class: ByteClass, text: &[u8]) -> bool
     ensures { result ≡ all_in class text.now }
 {
-    run_of(class, text) == text.len()
+    text.iter().all(|b| class.has(*b))
 }
 
 // Whether two texts are equal.

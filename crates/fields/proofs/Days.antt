@@ -12,7 +12,7 @@ use Rattle.fields.specs.Dates.{day_of, date, date_at}
 use Rattle.fields.specs.Decimal.{decimal}
 use Rattle.fields.specs.Denotes.{value, WritesDate}
 use Rattle.fields.specs.Results.{map_ok, bind}
-use Rattle.fields.specs.declared.fault.DateFault.{DateFault}
+use Rattle.fields.specs.declared.fault.FieldFault.{FieldFault}
 use Rattle.fields.proofs.Denotations.{written, from_decimal}
 use Rattle.fields.proofs.Options.{from_bind, from_cond, from_ok, from_err}
 
@@ -96,7 +96,7 @@ reading_dates t n = (
       ∙ ap Some (sym w.2),
 )
 
-pub date_exactly : (r : Result Date DateFault) (t : List ℕ) (place : ℕ) → map_ok (λ (d : Date). d.number) r ≡ date_at t place → MatchResult r (λ d. WritesDate t d.number) (λ _. (n : ℕ) → WritesDate t n → ⊥)
+pub date_exactly : (r : Result Date FieldFault) (t : List ℕ) (place : ℕ) → map_ok (λ (d : Date). d.number) r ≡ date_at t place → MatchResult r (λ d. WritesDate t d.number) (λ _. (n : ℕ) → WritesDate t n → ⊥)
 unfolding date_at
 date_exactly (Ok d) t place h = (reading_dates t d.number).0 (from_ok (date t) _ _ h)
 date_exactly (Err f) t place h =

@@ -1,6 +1,5 @@
 pub mod Options
 pub mod Decimals
-pub mod Fractions
 pub mod Denotations
 pub mod Amounts
 pub mod Days

@@ -1,7 +1,7 @@
 -- What an optional value came from.
 use Rattle.std.proofs.Common.{◌≡◌, Bool, true, false, cond, Some, None, Ok, Err, Option, refl, arith}
 use Rattle.std.specs.Option.{option_map, ok_or}
-use Rattle.fields.specs.Results.{bind}
+use Rattle.fields.specs.Results.{map_ok, bind}
 
 pub none_some : {A B : Type 0} {x : A} → None ≡ Some x → B
 none_some e = absurd (grind arith)
@@ -21,6 +21,10 @@ from_cond false o v e = none_some e
 pub mapped_none : {A B : Type 0} (o : Option A) (f : A → B) → option_map f o ≡ None → o ≡ None
 mapped_none None f e = refl
 mapped_none (Some a) f e = absurd (grind arith)
+
+pub ok_or_mapped : {A B E : Type 0} (f : A → B) (o : Option A) (e : E) → map_ok f (ok_or o e) ≡ ok_or (option_map f o) e
+ok_or_mapped f None e = refl
+ok_or_mapped f (Some a) e = refl
 
 pub from_ok : {A E : Type 0} (o : Option A) (e : E) (x : A) → Ok x ≡ ok_or o e → o ≡ Some x
 from_ok None e x h = absurd (grind arith)

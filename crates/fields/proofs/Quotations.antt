@@ -11,7 +11,7 @@ use Rattle.fields.specs.Denotes.{FieldEnds, Quotes}
 use Rattle.fields.specs.Quoted.{ends_field, quoted_length, quoted_at}
 use Rattle.fields.specs.Results.{map_ok}
 use Rattle.fields.specs.Spots.{Spot, seen}
-use Rattle.fields.specs.declared.fault.QuoteFault.{QuoteFault}
+use Rattle.fields.specs.declared.fault.FieldFault.{FieldFault}
 use Rattle.fields.specs.declared.field.Field.{Field}
 use Rattle.fields.proofs.Options.{none_some, from_cond, from_mapped, from_ok, from_err, mapped_none}
 
@@ -108,7 +108,7 @@ complete content more p s f =
 pub quoted_complete : (t content more : List ℕ) → Quotes t content more → quoted_length t ≡ Some (length content)
 quoted_complete t content more q = ap quoted_length q.spelled ∙ complete content more q.plain q.short q.ends
 
-pub quotes_exactly : (r : Result Field QuoteFault) (s : Spot) → map_ok seen r ≡ quoted_at s → MatchResult r (λ f. (more : List ℕ) × Quotes s.text f.text.now more) (λ _. (content : List ℕ) (more : List ℕ) → Quotes s.text content more → ⊥)
+pub quotes_exactly : (r : Result Field FieldFault) (s : Spot) → map_ok seen r ≡ quoted_at s → MatchResult r (λ f. (more : List ℕ) × Quotes s.text f.text.now more) (λ _. (content : List ℕ) (more : List ℕ) → Quotes s.text content more → ⊥)
 unfolding quoted_at
 quotes_exactly (Ok f) s h =
     let shown : ℕ → Spot = λ n. record { text = take n (drop 1 s.text); place = s.place } in
@@ -123,6 +123,6 @@ quotes_exactly (Err e) s h =
     let none = mapped_none (quoted_length s.text) _ (from_err _ _ e h) in
     grind arith
 
-pub quotes_within : (r : Result Field QuoteFault) (t : List ℕ) → MatchResult r (λ f. (more : List ℕ) × Quotes t f.text.now more) (λ _. (content : List ℕ) (more : List ℕ) → Quotes t content more → ⊥) → IfOk r (λ f. length f.text.now + 2 ≤ length t)
+pub quotes_within : (r : Result Field FieldFault) (t : List ℕ) → MatchResult r (λ f. (more : List ℕ) × Quotes t f.text.now more) (λ _. (content : List ℕ) (more : List ℕ) → Quotes t content more → ⊥) → IfOk r (λ f. length f.text.now + 2 ≤ length t)
 quotes_within (Ok f) t q = omega (arith, ap length q.1.spelled, length-append f.text.now (34 ∷ q.0))
 quotes_within (Err e) t q = tt

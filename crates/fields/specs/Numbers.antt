@@ -4,7 +4,8 @@ use Rattle.std.specs.Option.{option_map, ok_or}
 use Rattle.byte_text.specs.Classes.{before}
 use Rattle.fields.specs.Decimal.{decimal}
 use Rattle.fields.specs.Results.{bind}
-use Rattle.fields.specs.declared.fault.NumberFault.{NumberFault}
+use Rattle.fields.specs.declared.fault.FieldFault.{FieldFault}
+use Rattle.fields.specs.declared.fault.FieldFault.TheVariants.{Number}
 
 -- 1 to 6 digits
 abbrev pub whole : List ℕ → Option ℕ
@@ -24,5 +25,5 @@ abbrev pub number : List ℕ → Option ℤ
 number bs = cond (has_minus bs) (option_map (λ n. neg_ℤ (pos n)) (unsigned (drop 1 bs))) (option_map pos (unsigned bs))
 
 -- the number of a field, or its fault
-unfoldable pub number_at : List ℕ → ℕ → Result ℤ NumberFault
-number_at bs place = ok_or (number bs) (record { place = place })
+unfoldable pub number_at : List ℕ → ℕ → Result ℤ FieldFault
+number_at bs place = ok_or (number bs) (Number place)

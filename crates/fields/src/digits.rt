@@ -8,12 +8,10 @@ pub(crate) fn read_digits(text: &[u8]) -> Option<u32>
     ensures value { result ≡ decimal text.now }
     ensures bound { IfSome result (λ n. n < 10 ^ length text.now) }
 {
+    // a loop and no fold: that there is room for each digit hangs on how many were read
     let mut n: u32 = 0;
     for b in text {
-        if !b.is_ascii_digit() {
-            return None;
-        }
-        n = n * 10 + (*b - b'0') as u32;
+        n = n * 10 + char::from(*b).to_digit(10)?;
     }
     Some(n)
 }

@@ -5,7 +5,7 @@ ghost use Rattle.fields.specs.Quoted.{ends_field, quoted_length, quoted_at};
 ghost use Rattle.fields.specs.Results.{map_ok};
 ghost use Rattle.fields.specs.Spots.{seen};
 
-use crate::fault::QuoteFault;
+use crate::fault::FieldFault;
 use crate::field::Field;
 use byte_text::{ByteClass, after, byte_at, front, run_of};
 
@@ -13,41 +13,30 @@ use byte_text::{ByteClass, after, byte_at, front, run_of};
 pub fn ends_field(rest: &[u8]) -> bool
     ensures { result ≡ ends_field rest.now }
 {
-    rest.len() == 0 || byte_at(rest, 0) == b' '
+    matches!(rest, [] | [b' ', ..])
 }
 
 // How many bytes stand between the quotes that open a text, if they do and a space or nothing follows.
 fn quoted_length(text: &[u8]) -> Option<usize>
     ensures { result ≡ quoted_length text.now }
 {
-    if byte_at(text, 0) != b'"' {
-        return None;
-    }
     let n = run_of(ByteClass::QuotedText, after(text, 1));
-    if n > 40 || byte_at(text, n + 1) != b'"' {
-        return None;
-    }
-    if !ends_field(after(text, n + 2)) {
-        return None;
-    }
-    Some(n)
-}
-
-fn text_in<'a>(rest: Field<'a>) -> Result<Field<'a>, QuoteFault>
-    ensures { map_ok seen result ≡ quoted_at (seen rest.entry) }
-{
-    let n = quoted_length(rest.text).ok_or(QuoteFault { place: rest.place })?;
-    Ok(Field {
-        text: front(after(rest.text, 1), n),
-        place: rest.place,
-    })
+    let is_quoted = byte_at(text, 0) == b'"'
+        && n <= 40
+        && byte_at(text, n + 1) == b'"'
+        && ends_field(after(text, n + 2));
+    is_quoted.then_some(n)
 }
 
 // The text between the quotes that open the rest of a line, at the place of the first quote.
-pub fn read_quoted<'a>(rest: Field<'a>) -> Result<Field<'a>, QuoteFault>
+pub fn read_quoted<'a>(rest: Field<'a>) -> Result<Field<'a>, FieldFault>
     ensures value { map_ok seen result ≡ quoted_at (seen rest.entry) }
     ensures exactly { MatchResult result (λ f. (more : List ℕ) × Quotes rest.entry.text.now f.text.now more) (λ _. (content : List ℕ) (more : List ℕ) → Quotes rest.entry.text.now content more → ⊥) }
     ensures within { IfOk result (λ f. length f.text.now + 2 ≤ length rest.entry.text.now) }
 {
-    text_in(rest)
+    let n = quoted_length(rest.text).ok_or(FieldFault::QuotedText(rest.place))?;
+    Ok(Field {
+        text: front(after(rest.text, 1), n),
+        place: rest.place,
+    })
 }

@@ -19,8 +19,8 @@ use Rattle.lines.specs.Braces.{before_separator, is_word, Words, gap_end, two_wo
 use Rattle.lines.specs.Cuts.{missing}
 use Rattle.lines.specs.Grammar.{Spaces, Word, CostForm, BracesForm}
 use Rattle.lines.specs.Said.{CostSaid, BracesSaid, empty, cost, date, cost_and_date}
-use Rattle.lines.specs.declared.fault.CostFault.{CostFault}
-use Rattle.lines.specs.declared.fault.CostFault.TheVariants as fault
+use Rattle.lines.specs.declared.fault.LineFault.{LineFault}
+use Rattle.lines.specs.declared.fault.LineFault.TheVariants as fault
 use Rattle.lines.proofs.Fronts.{spaces_pass, pass_spaces, unlike_pass, Opens, opens_halt}
 use Rattle.lines.proofs.Steps.{err_ok, same_ok, from_and_then, from_commodity, to_commodity, from_number, to_number, from_date, to_date, no_date, no_number}
 
@@ -179,12 +179,12 @@ two_words_complete s w h n c =
 cost_sound : (brace : ℕ) (s : Spot) (w : Words) (c : CostSaid) → TwoWords s w → cost_in brace w ≡ Ok c → CostForm s.place s.text c
 unfolding cost_in
 cost_sound brace s w c h e =
-    let a = from_and_then fault.Number (number_at w.number.text w.number.place) (λ (v : ℤ). cond (has_minus w.number.text) (Err (fault.Braces brace)) (and_then fault.Name (commodity_at w.commodity) (λ (m : Spot). Ok (record { number = w.number; hundredths = v; commodity = m })))) c e in
+    let a = from_and_then fault.Field (number_at w.number.text w.number.place) (λ (v : ℤ). cond (has_minus w.number.text) (Err (fault.Braces brace)) (and_then fault.Field (commodity_at w.commodity) (λ (m : Spot). Ok (record { number = w.number; hundredths = v; commodity = m })))) c e in
     let denotes = from_number w.number.text w.number.place a.0 a.1 in
     ⊎_elim
     (λ (y : has_minus w.number.text ≡ true). err_ok (sym (cond-true _ _ _ y) ∙ a.2))
     (λ (n : has_minus w.number.text ≡ false).
-    let b = from_and_then fault.Name (commodity_at w.commodity) (λ (m : Spot). Ok (record { number = w.number; hundredths = a.0; commodity = m })) c (sym (cond-false _ _ _ n) ∙ a.2) in
+    let b = from_and_then fault.Field (commodity_at w.commodity) (λ (m : Spot). Ok (record { number = w.number; hundredths = a.0; commodity = m })) c (sym (cond-false _ _ _ n) ∙ a.2) in
     let m = from_commodity w.commodity b.0 b.1 in
     subst (CostForm s.place s.text) (ap (λ (x : Spot). record { number = w.number; hundredths = a.0; commodity = x }) m.0 ∙ same_ok b.2)
     (record {
@@ -273,7 +273,7 @@ separator_found (x ∷ xs) b h = rw (ne_eqb x 44 h.0, separator_found xs b h.1, 
 from_date_in : (s : Spot) (d : ℕ) → date_in s ≡ Ok d → WritesDate s.text d
 unfolding date_in
 from_date_in s d e =
-    let a = from_and_then fault.Date (date_at s.text s.place) (λ (x : ℕ). Ok x) d e in
+    let a = from_and_then fault.Field (date_at s.text s.place) (λ (x : ℕ). Ok x) d e in
     subst (WritesDate s.text) (same_ok a.2) (from_date s.text s.place a.0 a.1)
 
 to_date_in : (s : Spot) (d : ℕ) → WritesDate s.text d → date_in s ≡ Ok d
@@ -286,7 +286,7 @@ single_sound brace s b e =
     ⊎_elim
     (λ (y : is_word s.text ≡ true).
     let g = sym (ap (inside_by brace) (cond-true _ (Some (date_part s)) _ y)) ∙ e in
-    let a = from_and_then (λ (f : CostFault). f) (date_in s) (λ (d : ℕ). Ok (date d)) b g in
+    let a = from_and_then (λ (f : LineFault). f) (date_in s) (λ (d : ℕ). Ok (date d)) b g in
     subst (BracesForm s.place s.text) (same_ok a.2) (from_date_in s a.0 a.1))
     (λ (n : is_word s.text ≡ false). costs (two_words s) refl (sym (ap (inside_by brace) (cond-false _ _ (option_map cost_part (two_words s)) n)) ∙ e))
     (cases_Bool (is_word s.text))
@@ -294,7 +294,7 @@ single_sound brace s b e =
     costs : (o : Option Words) → two_words s ≡ o → inside_by brace (option_map cost_part o) ≡ Ok b → BracesForm s.place s.text b
     costs None f g = err_ok g
     costs (Some w) f g =
-        let a = from_and_then (λ (f : CostFault). f) (cost_in brace w) (λ (c : CostSaid). Ok (cost c)) b g in
+        let a = from_and_then (λ (f : LineFault). f) (cost_in brace w) (λ (c : CostSaid). Ok (cost c)) b g in
         subst (BracesForm s.place s.text) (same_ok a.2) (cost_sound brace s w a.0 (two_words_sound s w f) a.1)
 
 double_sound : (brace : ℕ) (s : Spot) (b : BracesSaid) → before_separator s.text < length s.text → inside_by brace (two_parts s (before_separator s.text)) ≡ Ok b → BracesForm s.place s.text b
@@ -314,8 +314,8 @@ double_sound brace s b l e = words (two_words first) refl e
     dates w None f h g = err_ok g
     dates w (Some x) f h g =
         let k = from_some (is_word second.text) second x h in
-        let a = from_and_then (λ (f : CostFault). f) (cost_in brace w) (λ (c : CostSaid). and_then (λ (f : CostFault). f) (date_in x) (λ (d : ℕ). Ok (cost_and_date c d))) b g in
-        let z = from_and_then (λ (f : CostFault). f) (date_in x) (λ (d : ℕ). Ok (cost_and_date a.0 d)) b a.2 in
+        let a = from_and_then (λ (f : LineFault). f) (cost_in brace w) (λ (c : CostSaid). and_then (λ (f : LineFault). f) (date_in x) (λ (d : ℕ). Ok (cost_and_date c d))) b g in
+        let z = from_and_then (λ (f : LineFault). f) (date_in x) (λ (d : ℕ). Ok (cost_and_date a.0 d)) b a.2 in
         let wrote : WritesDate second.text z.0 = from_date_in second z.0 (ap date_in k.1 ∙ z.1) in
         subst (BracesForm s.place s.text) (same_ok z.2) (
           first.text,

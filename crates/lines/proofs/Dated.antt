@@ -11,8 +11,8 @@ use Rattle.lines.specs.Directives.{commodity_from, own_from, open_from, close_fr
 use Rattle.lines.specs.Grammar.{Fields, CommodityForm, OpenForm, CloseForm}
 use Rattle.lines.specs.Postings.{ends_at}
 use Rattle.lines.specs.Said.{Said, commodity, opening, closing, balance}
-use Rattle.lines.specs.declared.fault.DirectiveFault.{DirectiveFault}
-use Rattle.lines.specs.declared.fault.DirectiveFault.TheVariants as fault
+use Rattle.lines.specs.declared.fault.LineFault.{LineFault}
+use Rattle.lines.specs.declared.fault.LineFault.TheVariants as fault
 use Rattle.lines.proofs.Fronts.{none_found, none_only}
 use Rattle.lines.proofs.Steps.{same_ok, from_and_then, from_commodity, to_commodity, from_account, to_account, from_number, to_number, no_commodity, no_account, no_number, present, ends_found, ends_only, found, fields_only, fields_end, fields_none, fields_more}
 
@@ -38,8 +38,8 @@ module _ (line : List ℕ) where
   pub commodity_sound : (d from : ℕ) (s : Said) → commodity_from line d from ≡ Ok s → (name : Spot) × (s ≡ commodity d name) × CommodityForm (from + 1) (tail from) name
   unfolding commodity_from
   commodity_sound d from s e =
-      let a = from_and_then fault.Name (commodity_at (at from)) (λ (name : Spot). and_then fault.Form (ends_at line (end from)) (λ _. Ok (commodity d name))) s e in
-      let b = from_and_then fault.Form (ends_at line (end from)) (λ _. Ok (commodity d a.0)) s a.2 in
+      let a = from_and_then fault.Field (commodity_at (at from)) (λ (name : Spot). and_then (λ (f : LineFault). f) (ends_at line (end from)) (λ _. Ok (commodity d name))) s e in
+      let b = from_and_then (λ (f : LineFault). f) (ends_at line (end from)) (λ _. Ok (commodity d a.0)) s a.2 in
       let c = from_commodity (at from) a.0 a.1 in
       (at from, sym (same_ok b.2) ∙ ap (commodity d) (sym c.0), (last IsCommodityName no_commodity from b.0 c.1 b.1, c.1))
 
@@ -54,8 +54,8 @@ module _ (line : List ℕ) where
   pub close_sound : (d from : ℕ) (s : Said) → close_from line d from ≡ Ok s → (account : Spot) × (s ≡ closing d account) × CloseForm (from + 1) (tail from) account
   unfolding close_from
   close_sound d from s e =
-      let a = from_and_then fault.Name (account_at (at from)) (λ (account : Spot). and_then fault.Form (ends_at line (end from)) (λ _. Ok (closing d account))) s e in
-      let b = from_and_then fault.Form (ends_at line (end from)) (λ _. Ok (closing d a.0)) s a.2 in
+      let a = from_and_then fault.Field (account_at (at from)) (λ (account : Spot). and_then (λ (f : LineFault). f) (ends_at line (end from)) (λ _. Ok (closing d account))) s e in
+      let b = from_and_then (λ (f : LineFault). f) (ends_at line (end from)) (λ _. Ok (closing d a.0)) s a.2 in
       let c = from_account (at from) a.0 a.1 in
       let f = last IsAccountName no_account from b.0 c.1 b.1 in
       (at from, sym (same_ok b.2) ∙ ap (closing d) (sym c.0), (f, c.1))
@@ -81,8 +81,8 @@ module _ (line : List ℕ) where
       subst (OwnForm from) (same_ok (sym (cond-true _ _ _ m) ∙ e)) (fields_end (from + 1) (tail from) (none_found line from m)))
       (λ (m : missing (at from) ≡ false).
       let g = sym (cond-false _ _ _ m) ∙ e in
-      let a = from_and_then fault.Name (commodity_at (at from)) (λ (own : Spot). and_then fault.Form (ends_at line (end from)) (λ _. Ok (Some own))) o g in
-      let b = from_and_then fault.Form (ends_at line (end from)) (λ _. Ok (Some a.0)) o a.2 in
+      let a = from_and_then fault.Field (commodity_at (at from)) (λ (own : Spot). and_then (λ (f : LineFault). f) (ends_at line (end from)) (λ _. Ok (Some own))) o g in
+      let b = from_and_then (λ (f : LineFault). f) (ends_at line (end from)) (λ _. Ok (Some a.0)) o a.2 in
       let c = from_commodity (at from) a.0 a.1 in
       subst (OwnForm from) (ap Some c.0 ∙ same_ok b.2) (last IsCommodityName no_commodity from b.0 c.1 b.1, c.1))
       (cases_Bool (missing (at from)))
@@ -104,8 +104,8 @@ module _ (line : List ℕ) where
   pub open_sound : (d from : ℕ) (s : Said) → open_from line d from ≡ Ok s → (account : Spot) × (own : Option Spot) × (s ≡ opening d account own) × OpenForm (from + 1) (tail from) account own
   unfolding open_from
   open_sound d from s e =
-      let a = from_and_then fault.Name (account_at (at from)) (λ (account : Spot). and_then (λ (f : DirectiveFault). f) (own_from line (end from)) (λ (own : Option Spot). Ok (opening d account own))) s e in
-      let b = from_and_then (λ (f : DirectiveFault). f) (own_from line (end from)) (λ (own : Option Spot). Ok (opening d a.0 own)) s a.2 in
+      let a = from_and_then fault.Field (account_at (at from)) (λ (account : Spot). and_then (λ (f : LineFault). f) (own_from line (end from)) (λ (own : Option Spot). Ok (opening d account own))) s e in
+      let b = from_and_then (λ (f : LineFault). f) (own_from line (end from)) (λ (own : Option Spot). Ok (opening d a.0 own)) s a.2 in
       let c = from_account (at from) a.0 a.1 in
       (at from, b.0, sym (same_ok b.2) ∙ ap (λ (x : Spot). opening d x b.0) (sym c.0), open_form from b.0 c.1 (own_sound (end from) b.0 b.1))
 
@@ -127,10 +127,10 @@ module _ (line : List ℕ) where
       let second = end from in
       let third = end (end from) in
       let num = at second in
-      let a = from_and_then fault.Name (account_at (at from)) (λ (account : Spot). and_then fault.Number (number_at num.text num.place) (λ (v : ℤ). and_then fault.Name (commodity_at (at third)) (λ (name : Spot). and_then fault.Form (ends_at line (end third)) (λ _. Ok (balance d account num v name))))) s e in
-      let b = from_and_then fault.Number (number_at num.text num.place) (λ (v : ℤ). and_then fault.Name (commodity_at (at third)) (λ (name : Spot). and_then fault.Form (ends_at line (end third)) (λ _. Ok (balance d a.0 num v name)))) s a.2 in
-      let c = from_and_then fault.Name (commodity_at (at third)) (λ (name : Spot). and_then fault.Form (ends_at line (end third)) (λ _. Ok (balance d a.0 num b.0 name))) s b.2 in
-      let z = from_and_then fault.Form (ends_at line (end third)) (λ _. Ok (balance d a.0 num b.0 c.0)) s c.2 in
+      let a = from_and_then fault.Field (account_at (at from)) (λ (account : Spot). and_then fault.Field (number_at num.text num.place) (λ (v : ℤ). and_then fault.Field (commodity_at (at third)) (λ (name : Spot). and_then (λ (f : LineFault). f) (ends_at line (end third)) (λ _. Ok (balance d account num v name))))) s e in
+      let b = from_and_then fault.Field (number_at num.text num.place) (λ (v : ℤ). and_then fault.Field (commodity_at (at third)) (λ (name : Spot). and_then (λ (f : LineFault). f) (ends_at line (end third)) (λ _. Ok (balance d a.0 num v name)))) s a.2 in
+      let c = from_and_then fault.Field (commodity_at (at third)) (λ (name : Spot). and_then (λ (f : LineFault). f) (ends_at line (end third)) (λ _. Ok (balance d a.0 num b.0 name))) s b.2 in
+      let z = from_and_then (λ (f : LineFault). f) (ends_at line (end third)) (λ _. Ok (balance d a.0 num b.0 c.0)) s c.2 in
       let acc = from_account (at from) a.0 a.1 in
       let den = from_number num.text num.place b.0 b.1 in
       let own = from_commodity (at third) c.0 c.1 in (

@@ -18,8 +18,8 @@ use Rattle.lines.specs.Directives.{by_word, dated_from, dated_line, directive_li
 use Rattle.lines.specs.Grammar.{Next, Fields, Quoted, Dated, CommodityForm, OpenForm, CloseForm, Form, flag_sign}
 use Rattle.lines.specs.Said.{Said, booking_method, commodity, opening, closing, balance, transaction, posting, PostingSaid}
 use Rattle.values.specs.declared.flag.Flag.TheVariants.{Complete, Incomplete}
-use Rattle.lines.specs.declared.fault.DirectiveFault.{DirectiveFault}
-use Rattle.lines.specs.declared.fault.DirectiveFault.TheVariants as fault
+use Rattle.lines.specs.declared.fault.LineFault.{LineFault}
+use Rattle.lines.specs.declared.fault.LineFault.TheVariants as fault
 use Rattle.lines.proofs.Fronts.{start_is, next_only}
 use Rattle.lines.proofs.Steps.{err_ok, from_and_then, from_date, to_date, no_date, found, front_only}
 use Rattle.lines.proofs.Dated.{commodity_sound, commodity_complete, open_sound, open_complete, close_sound, close_complete, balance_sound, balance_complete}
@@ -89,22 +89,22 @@ module _ (line : List ℕ) where
   abbrev is : List ℕ → Bool
   is word = bytes_eq word_at.text word
 
-  abbrev unknown : Result Said DirectiveFault
+  abbrev unknown : Result Said LineFault
   unknown = Err (fault.Form word_at.place)
 
-  abbrev from_flag : ℕ → Result Said DirectiveFault
+  abbrev from_flag : ℕ → Result Said LineFault
   from_flag d = cond (is (codes "!")) (transaction_from line d Incomplete behind) unknown
 
-  abbrev from_star : ℕ → Result Said DirectiveFault
+  abbrev from_star : ℕ → Result Said LineFault
   from_star d = cond (is (codes "*")) (transaction_from line d Complete behind) (from_flag d)
 
-  abbrev from_balance : ℕ → Result Said DirectiveFault
+  abbrev from_balance : ℕ → Result Said LineFault
   from_balance d = cond (is (codes "balance")) (balance_from line d behind) (from_star d)
 
-  abbrev from_close : ℕ → Result Said DirectiveFault
+  abbrev from_close : ℕ → Result Said LineFault
   from_close d = cond (is (codes "close")) (close_from line d behind) (from_balance d)
 
-  abbrev from_open : ℕ → Result Said DirectiveFault
+  abbrev from_open : ℕ → Result Said LineFault
   from_open d = cond (is (codes "open")) (open_from line d behind) (from_close d)
 
   some_word : (w : List ℕ) → 1 ≤ length w → w ≡ [] → ⊥
@@ -157,7 +157,7 @@ module _ (line : List ℕ) where
   directive_sound number s unspaced e =
       by_choice (is_ascii_digit (get_or line 0 0)) (dated_line line) other (Ok s) e
       (λ digit c.
-      let a = from_and_then fault.Date (date_at (field_at line 0).text (field_at line 0).place) (λ (d : ℕ). dated_from line d (field_end line 0)) s c in
+      let a = from_and_then fault.Field (date_at (field_at line 0).text (field_at line 0).place) (λ (d : ℕ). dated_from line d (field_end line 0)) s c in
       by_word_sound number a.0 s digit (from_date (field_at line 0).text (field_at line 0).place a.0 a.1) a.2)
       (λ _ e₁.
       by_choice (eqb number 1 && bytes_eq (field_at line 0).text (codes "option")) (option_from line (field_end line 0)) (Err (fault.Form 1)) (Ok s) e₁
@@ -189,7 +189,7 @@ module _ (line : List ℕ) where
       ))
       (λ _ z. err_ok z))
     where
-      other : Result Said DirectiveFault
+      other : Result Said LineFault
       other = cond (eqb number 1 && bytes_eq (field_at line 0).text (codes "option")) (option_from line (field_end line 0)) (Err (fault.Form 1))
 
   -- what a form behind a date and a word says, moved to where the word ends

@@ -1,4 +1,6 @@
+pub mod Bytes
 pub mod Separators
+pub mod Keywords
 pub mod Journals
 pub mod Fronts
 pub mod Steps

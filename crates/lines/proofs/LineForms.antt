@@ -1,5 +1,5 @@
 -- A line is read exactly as it is written.
-use Rattle.std.proofs.Common.{◌≡◌, ℕ, ◌≤◌, Bool, true, false, ◌&&◌, eqb, leb, List, [], ◌∷◌, length, get_or, Some, None, Ok, Err, Decides, Option, Result, sym, refl, ap, ◌∙◌, subst, ⊎_elim, arith}
+use Rattle.std.proofs.Common.{◌≡◌, ℕ, ◌≤◌, Bool, true, false, ◌&&◌, eqb, leb, List, [], ◌∷◌, length, get_or, Some, None, Ok, Err, Decides, Option, Result, sym, refl, ap, ◌∙◌, subst, ⊎_elim, arith, MatchResult}
 use Rattle.std.specs.List.{AllByRecursion, list_all}
 use Rattle.std.proofs.lemmas.Bool.{cases_Bool, cond-true, cond-false, and_parts, and_from, and_right, leb-true, le-leb, eqb-true, eqb-false, eq-eqb, ne_eqb, false≢true}
 use Rattle.std.proofs.lemmas.Bool.Decides.{Decides-eqb}
@@ -9,18 +9,20 @@ use Rattle.byte_text.specs.declared.ByteClass.TheVariants.{Printable, Space}
 use Rattle.byte_text.proofs.Runs.{run_all}
 use Rattle.values.specs.Spelling.{Starts, IsAccountName}
 use Rattle.values.proofs.Commodities.{within_decides}
-use Rattle.fields.specs.Results.{and_then}
+use Rattle.fields.specs.Results.{map_ok, and_then}
+use Rattle.std.specs.Option.{option_map}
 use Rattle.fields.specs.Spots.{Spot}
 use Rattle.fields.proofs.Options.{none_some}
 use Rattle.refusal.specs.declared.Fault.{Fault}
 use Rattle.lines.specs.Cuts.{missing}
 use Rattle.lines.specs.Directives.{directive_line}
-use Rattle.lines.specs.Faults.{directive_from_posting, fault_on}
+use Rattle.lines.specs.Faults.{fault_on}
 use Rattle.lines.specs.Grammar.{Spaces, PostingForm, Clean, BlankLine, Written, ReadsExactly}
 use Rattle.lines.specs.Lines.{wrong_byte, line_kind, unless_wrong, posting_line, other_line, by_kind, line_says}
 use Rattle.lines.specs.Postings.{posting_of}
-use Rattle.lines.specs.Said.{Said, booking_method, commodity, opening, closing, balance, transaction, posting, PostingSaid, UnitsSaid}
-use Rattle.lines.specs.declared.fault.DirectiveFault.{DirectiveFault}
+use Rattle.lines.specs.Said.{Said, booking_method, commodity, opening, closing, balance, transaction, posting, PostingSaid, UnitsSaid, said}
+use Rattle.lines.specs.declared.directive.Directive.{Directive}
+use Rattle.lines.specs.declared.fault.LineFault.{LineFault}
 use Rattle.lines.specs.declared.line.LineKind.{LineKind}
 use Rattle.lines.specs.declared.line.LineKind.TheVariants as kind
 use Rattle.lines.proofs.Fronts.{none_only, next_only}
@@ -120,15 +122,15 @@ module _ (line : List ℕ) where
   Says number None = BlankLine line
   Says number (Some s) = Written number line s
 
-  unwronged : {A : Type 0} (o : Option ℕ) (r : Result A DirectiveFault) (x : A) → unless_wrong o r ≡ Ok x → (o ≡ None) × (r ≡ Ok x)
+  unwronged : {A : Type 0} (o : Option ℕ) (r : Result A LineFault) (x : A) → unless_wrong o r ≡ Ok x → (o ≡ None) × (r ≡ Ok x)
   unwronged None r x e = (refl, e)
   unwronged (Some p) r x e = err_ok e
 
   posting_says : (number : ℕ) (s : Said) → Starts (λ b. b ≡ 32) line → posting_line line ≡ Ok s → Written number line s
   unfolding posting_line
   posting_says number s first e =
-      let u = unwronged (wrong_byte line) (and_then directive_from_posting (posting_of line) (λ (p : PostingSaid). Ok (posting p))) s e in
-      let a = from_and_then directive_from_posting (posting_of line) (λ (p : PostingSaid). Ok (posting p)) s u.1 in
+      let u = unwronged (wrong_byte line) (and_then (λ (f : LineFault). f) (posting_of line) (λ (p : PostingSaid). Ok (posting p))) s e in
+      let a = from_and_then (λ (f : LineFault). f) (posting_of line) (λ (p : PostingSaid). Ok (posting p)) s u.1 in
       subst (Written number line) (same_ok a.2) (clean_found u.0, (first, posting_sound line a.0 a.1))
 
   other_says : (number : ℕ) (s : Said) → (get_or line 0 0 ≡ 32 → ⊥) → other_line number line ≡ Ok s → Written number line s
@@ -140,10 +142,10 @@ module _ (line : List ℕ) where
   kind_says : (number : ℕ) (k : LineKind) (o : Option Said) → line_kind line ≡ k → by_kind number line k ≡ Ok o → Says number o
   kind_says number kind.Blank o e h = subst (Says number) (same_ok h) (blank_found e)
   kind_says number kind.Posting o e h =
-      let a = from_and_then (λ (f : DirectiveFault). f) (posting_line line) (λ (s : Said). Ok (Some s)) o h in
+      let a = from_and_then (λ (f : LineFault). f) (posting_line line) (λ (s : Said). Ok (Some s)) o h in
       subst (Says number) (same_ok a.2) (posting_says number a.0 (posting_first e) a.1)
   kind_says number kind.Other o e h =
-      let a = from_and_then (λ (f : DirectiveFault). f) (other_line number line) (λ (s : Said). Ok (Some s)) o h in
+      let a = from_and_then (λ (f : LineFault). f) (other_line number line) (λ (s : Said). Ok (Some s)) o h in
       subst (Says number) (same_ok a.2) (other_says number a.0 (eqb-false _ _ ((first_told kind.Other e).1 refl)) a.1)
 
   says_sound : (number : ℕ) (o : Option Said) → line_says number line ≡ Ok o → Says number o
@@ -196,6 +198,12 @@ module _ (line : List ℕ) where
 
 same_some : {A : Type 0} {x y : A} → Some x ≡ Some y → x ≡ y
 same_some e = cc
+
+-- what is read of a line, from what its reading by kinds gives
+pub says_by_kind : (number : ℕ) (line : List ℕ) (r : Result (Option Directive) LineFault) (s : Result (Option Directive) Fault) → map_ok (option_map said) r ≡ by_kind number line (line_kind line) → MatchResult r (λ x. s ≡ Ok x) (λ f. s ≡ Err (fault_on number f)) → map_ok (option_map said) s ≡ line_says number line
+unfolding line_says
+says_by_kind number line (Ok x) s h e = rw (e, ← h)
+says_by_kind number line (Err f) s h e = rw (e, ← h)
 
 pub reads_exactly : (number : ℕ) (line : List ℕ) (r : Result (Option Said) Fault) → r ≡ line_says number line → ReadsExactly number line r
 reads_exactly number line (Ok None) e = says_sound line number None (sym e)

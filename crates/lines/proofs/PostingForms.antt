@@ -16,12 +16,11 @@ use Rattle.fields.specs.Spots.{Spot, commodity_at, account_at}
 use Rattle.fields.proofs.Quotations.{ends_complete}
 use Rattle.lines.specs.Braces.{inside}
 use Rattle.lines.specs.Cuts.{field_start, field_text, field_at, field_end, missing}
-use Rattle.lines.specs.Faults.{posting_from_cost}
 use Rattle.lines.specs.Grammar.{Spaces, BracesForm, Braced, UnitsForm, PostingForm}
 use Rattle.lines.specs.Postings.{ends_at, closed, braces_from, braces_at, units_at, posting_of}
 use Rattle.lines.specs.Said.{BracesSaid, UnitsSaid, PostingSaid}
-use Rattle.lines.specs.declared.fault.PostingFault.{PostingFault}
-use Rattle.lines.specs.declared.fault.PostingFault.TheVariants as fault
+use Rattle.lines.specs.declared.fault.LineFault.{LineFault}
+use Rattle.lines.specs.declared.fault.LineFault.TheVariants as fault
 use Rattle.lines.proofs.Fronts.{here, gap_length, body, at_start, text_is, start_is, spaces_pass, pass_spaces, unlike_pass, none_found, none_only, next_only}
 use Rattle.lines.proofs.Steps.{err_ok, same_ok, from_and_then, from_account, to_account, from_commodity, to_commodity, from_number, to_number, no_account, no_commodity, no_number, present, ends_found, ends_only, found, front_only, fields_only, fields_end, fields_none}
 use Rattle.lines.proofs.Dated.{more}
@@ -63,8 +62,8 @@ module _ (line : List ℕ) where
       ⊎_elim
       (λ (y : ends_field (drop (brace + n + 1) line) ≡ true).
       let h = sym (cond-true _ _ _ y) ∙ g in
-      let a = from_and_then posting_from_cost (inside brace (record { text = take n t; place = brace + 1 })) (λ (x : BracesSaid). and_then fault.Form (ends_at line (brace + n + 1)) (λ _. Ok (Some x))) b h in
-      let c = from_and_then fault.Form (ends_at line (brace + n + 1)) (λ _. Ok (Some a.0)) b a.2 in
+      let a = from_and_then (λ (f : LineFault). f) (inside brace (record { text = take n t; place = brace + 1 })) (λ (x : BracesSaid). and_then (λ (f : LineFault). f) (ends_at line (brace + n + 1)) (λ _. Ok (Some x))) b h in
+      let c = from_and_then (λ (f : LineFault). f) (ends_at line (brace + n + 1)) (λ _. Ok (Some a.0)) b a.2 in
       let behind : drop (n + 1) t ≡ drop (brace + n + 1) line = drop-drop (n + 1) brace line ∙ ap (λ (m : ℕ). drop m line) (omega arith) in (
         a.0,
         take n t,
@@ -202,9 +201,9 @@ module _ (line : List ℕ) where
   units_sound from u e =
       let n = field_at line from in
       let end = field_end line from in
-      let a = from_and_then fault.Number (number_at n.text n.place) (λ (v : ℤ). and_then fault.Name (commodity_at (field_at line end)) (λ (c : Spot). and_then (λ (f : PostingFault). f) (braces_at line (field_end line end)) (λ (b : Option BracesSaid). Ok (record { number = n; hundredths = v; commodity = c; braces = b })))) u e in
-      let b = from_and_then fault.Name (commodity_at (field_at line end)) (λ (c : Spot). and_then (λ (f : PostingFault). f) (braces_at line (field_end line end)) (λ (b : Option BracesSaid). Ok (record { number = n; hundredths = a.0; commodity = c; braces = b }))) u a.2 in
-      let c = from_and_then (λ (f : PostingFault). f) (braces_at line (field_end line end)) (λ (o : Option BracesSaid). Ok (record { number = n; hundredths = a.0; commodity = b.0; braces = o })) u b.2 in
+      let a = from_and_then fault.Field (number_at n.text n.place) (λ (v : ℤ). and_then fault.Field (commodity_at (field_at line end)) (λ (c : Spot). and_then (λ (f : LineFault). f) (braces_at line (field_end line end)) (λ (b : Option BracesSaid). Ok (record { number = n; hundredths = v; commodity = c; braces = b })))) u e in
+      let b = from_and_then fault.Field (commodity_at (field_at line end)) (λ (c : Spot). and_then (λ (f : LineFault). f) (braces_at line (field_end line end)) (λ (b : Option BracesSaid). Ok (record { number = n; hundredths = a.0; commodity = c; braces = b }))) u a.2 in
+      let c = from_and_then (λ (f : LineFault). f) (braces_at line (field_end line end)) (λ (o : Option BracesSaid). Ok (record { number = n; hundredths = a.0; commodity = b.0; braces = o })) u b.2 in
       let own = from_commodity (field_at line end) b.0 b.1 in
       let same : ◌≡◌ {A = UnitsSaid} (record { number = n; hundredths = a.0; commodity = field_at line end; braces = c.0 }) u = ap (λ (x : Spot). record { number = n; hundredths = a.0; commodity = x; braces = c.0 }) own.0 ∙ same_ok c.2 in
       subst (λ (x : UnitsSaid). UnitsForm (from + 1) (drop from line) x x.braces) same
@@ -242,8 +241,8 @@ module _ (line : List ℕ) where
   unfolding posting_of
   posting_sound p e =
       let end = field_end line 0 in
-      let k : Spot → Result PostingSaid PostingFault = λ account. cond (missing (field_at line end)) (Ok (record { account = account; units = None })) (and_then (λ (f : PostingFault). f) (units_at line end) (λ (u : UnitsSaid). Ok (record { account = account; units = Some u }))) in
-      let a = from_and_then fault.Name (account_at (field_at line 0)) k p e in
+      let k : Spot → Result PostingSaid LineFault = λ account. cond (missing (field_at line end)) (Ok (record { account = account; units = None })) (and_then (λ (f : LineFault). f) (units_at line end) (λ (u : UnitsSaid). Ok (record { account = account; units = Some u }))) in
+      let a = from_and_then fault.Field (account_at (field_at line 0)) k p e in
       let n = from_account (field_at line 0) a.0 a.1 in
       let first = found line IsAccountName no_account 0 n.1 in
       ⊎_elim
@@ -252,7 +251,7 @@ module _ (line : List ℕ) where
       subst (λ (x : PostingSaid). PostingForm line x.account x.units) same
       (more line IsAccountName no_account 0 [] n.1 (fields_end _ (drop end line) (none_found line end m)), n.1))
       (λ (m : missing (field_at line end) ≡ false).
-      let b = from_and_then (λ (f : PostingFault). f) (units_at line end) (λ (u : UnitsSaid). Ok (record { account = a.0; units = Some u })) p (sym (cond-false _ (Ok (record { account = a.0; units = None })) _ m) ∙ a.2) in
+      let b = from_and_then (λ (f : LineFault). f) (units_at line end) (λ (u : UnitsSaid). Ok (record { account = a.0; units = Some u })) p (sym (cond-false _ (Ok (record { account = a.0; units = None })) _ m) ∙ a.2) in
       let same : ◌≡◌ {A = PostingSaid} (record { account = field_at line 0; units = Some b.0 }) p = ap (λ (x : Spot). record { account = x; units = Some b.0 }) n.0 ∙ same_ok b.2 in
       subst (λ (x : PostingSaid). PostingForm line x.account x.units) same
       (drop end line, end + 1, first, n.1, units_sound end b.0 b.1))

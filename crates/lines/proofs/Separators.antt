@@ -1,20 +1,29 @@
--- The steps of looking for a comma with a space behind it.
-use Rattle.std.proofs.Common.{◌≡◌, ℕ, ◌+◌, ◌<◌, ◌≤◌, true, false, cond, ◌&&◌, eqb, List, length, get_or, drop, ap, ◌∙◌, add-zero}
-use Rattle.std.proofs.lemmas.List.{at_drop_more, at_drop_all, get_or-drop}
+-- The first comma with a space behind it.
+use Rattle.std.proofs.Common.{◌≡◌, ℕ, suc, ◌<◌, ◌≤◌, true, false, ◌&&◌, eqb, List, [], ◌∷◌, length, get_or, drop, Option, Some, None, ap, ◌∙◌, sym, zero, add-zero, add-one, one-add, arith, MatchOption}
+use Rattle.std.proofs.lemmas.List.{get_or-drop}
 use Rattle.std.proofs.lemmas.Bool.{cond-true, cond-false}
 use Rattle.lines.specs.Braces.{separates, before_separator}
 
-here_or_later : (xs : List ℕ) (i : ℕ) → i < length xs → before_separator (drop i xs) ≡ cond (separates xs i) 0 (1 + before_separator (drop (i + 1) xs))
-here_or_later xs i h =
-    at_drop_more before_separator xs i 0 h
-    ∙ ap (λ (b : ℕ). cond (eqb (get_or xs i 0) 44 && eqb b 32) 0 (1 + before_separator (drop (i + 1) xs)))
-    (get_or-drop (i + 1) xs 0 0 ∙ ap (λ (k : ℕ). get_or xs k 0) (add-zero (i + 1)))
+separates_behind : (b : ℕ) (bs : List ℕ) (k : ℕ) → separates (b ∷ bs) (suc k) ≡ separates bs k
+separates_behind b bs k = simp add-one
 
-pub separator_here : (xs : List ℕ) (i : ℕ) → i < length xs → separates xs i ≡ true → before_separator (drop i xs) ≡ 0
-separator_here xs i h e = here_or_later xs i h ∙ cond-true _ _ _ e
+separator_is : (xs : List ℕ) (n : ℕ) → n ≤ length xs → ((k : ℕ) → k < n → separates xs k ≡ false) → (n < length xs → separates xs n ≡ true) → before_separator xs ≡ n
+separator_is [] n l none some = omega arith
+separator_is (b ∷ bs) zero l none some = cond-true _ _ _ (some (omega arith))
+separator_is (b ∷ bs) (suc n) l none some =
+    cond-false _ _ _ (none 0 (omega arith))
+    ∙ one-add _
+    ∙ ap suc (separator_is bs n (omega arith) (λ k h. sym (separates_behind b bs k) ∙ none (suc k) (omega arith)) (λ h. sym (separates_behind b bs n) ∙ some (omega arith)))
 
-pub separator_more : (xs : List ℕ) (i : ℕ) → i < length xs → separates xs i ≡ false → before_separator (drop i xs) ≡ 1 + before_separator (drop (i + 1) xs)
-separator_more xs i h e = here_or_later xs i h ∙ cond-false _ _ _ e
+separates_at : (xs : List ℕ) (k : ℕ) → separates (drop k xs) 0 ≡ separates xs k
+separates_at xs k =
+    ap (λ (b : ℕ). eqb b 44 && eqb (get_or (drop k xs) 1 0) 32) (get_or-drop k xs 0 0 ∙ ap (λ (i : ℕ). get_or xs i 0) (add-zero k))
+    ∙ ap (λ (b : ℕ). eqb (get_or xs k 0) 44 && eqb b 32) (get_or-drop k xs 1 0)
 
-pub separator_end : (xs : List ℕ) (i : ℕ) → length xs ≤ i → before_separator (drop i xs) ≡ 0
-separator_end xs i h = at_drop_all before_separator xs i h
+pub separator_found : (r : Option ℕ) (xs : List ℕ) → MatchOption r ((k : ℕ) → 0 ≤ k → k < length xs → separates (drop k xs) 0 ≡ false) (λ i. (0 ≤ i) × (i < length xs) × (separates (drop i xs) 0 ≡ true) × ((k : ℕ) → 0 ≤ k → k < i → separates (drop k xs) 0 ≡ false)) → MatchOption r (before_separator xs ≡ length xs) (λ n. (n ≡ before_separator xs) × (n < length xs))
+separator_found None xs none =
+    separator_is xs (length xs) (omega arith) (λ k h. sym (separates_at xs k) ∙ none k (omega arith) h) (λ h. absurd (omega arith))
+separator_found (Some i) xs f = (
+  sym (separator_is xs i (omega arith) (λ k h. sym (separates_at xs k) ∙ f.3 k (omega arith) h) (λ _. sym (separates_at xs i) ∙ f.2)),
+  f.1,
+)

@@ -12,8 +12,8 @@ use Rattle.fields.specs.Denotes.{Denotes, WritesDate}
 use Rattle.fields.specs.Numbers.{number, number_at}
 use Rattle.fields.specs.Results.{and_then}
 use Rattle.fields.specs.Spots.{Spot, commodity_at, account_at}
-use Rattle.fields.specs.declared.fault.DateFault.{DateFault}
-use Rattle.fields.specs.declared.fault.NumberFault.{NumberFault}
+use Rattle.fields.specs.declared.fault.FieldFault.{FieldFault}
+use Rattle.fields.specs.declared.fault.FieldFault.TheVariants as field
 use Rattle.fields.proofs.Days.{reading_dates}
 use Rattle.fields.proofs.Denotations.{reading_denotes}
 use Rattle.fields.proofs.Options.{none_some, from_ok}
@@ -62,7 +62,7 @@ from_number t p v e = (reading_denotes t v).0 (from_ok (number t) _ v (sym e))
 
 pub to_number : (t : List ℕ) (p : ℕ) (v : ℤ) → Denotes t v → number_at t p ≡ Ok v
 unfolding number_at
-to_number t p v d = let made : Option ℤ → Result ℤ NumberFault = λ o. ok_or o (record { place = p }) in ap made ((reading_denotes t v).1 d)
+to_number t p v d = let made : Option ℤ → Result ℤ FieldFault = λ o. ok_or o (field.Number p) in ap made ((reading_denotes t v).1 d)
 
 pub from_date : (t : List ℕ) (p n : ℕ) → date_at t p ≡ Ok n → WritesDate t n
 unfolding date_at
@@ -70,7 +70,7 @@ from_date t p n e = (reading_dates t n).0 (from_ok (date t) _ n (sym e))
 
 pub to_date : (t : List ℕ) (p n : ℕ) → WritesDate t n → date_at t p ≡ Ok n
 unfolding date_at
-to_date t p n w = let made : Option ℕ → Result ℕ DateFault = λ o. ok_or o (record { place = p }) in ap made ((reading_dates t n).1 w)
+to_date t p n w = let made : Option ℕ → Result ℕ FieldFault = λ o. ok_or o (field.Date p) in ap made ((reading_dates t n).1 w)
 
 -- each of them has some bytes
 

@@ -14,7 +14,8 @@ use Rattle.fields.specs.Denotes.{Quotes}
 use Rattle.fields.specs.Quoted.{quoted_length, quoted_at}
 use Rattle.fields.specs.Results.{and_then}
 use Rattle.fields.specs.Spots.{Spot}
-use Rattle.fields.specs.declared.fault.QuoteFault.{QuoteFault}
+use Rattle.fields.specs.declared.fault.FieldFault.{FieldFault}
+use Rattle.fields.specs.declared.fault.FieldFault.TheVariants.{QuotedText}
 use Rattle.fields.proofs.Options.{none_some, from_mapped, from_ok}
 use Rattle.fields.proofs.Quotations.{quoted_sound, quoted_complete, behind}
 use Rattle.lines.specs.Cuts.{field_start, rest_at}
@@ -25,8 +26,8 @@ use Rattle.lines.specs.Said.{Said, booking_method, transaction}
 use Rattle.values.specs.declared.flag.Flag.{Flag}
 use Rattle.lines.specs.declared.directive.Method.{Method}
 use Rattle.lines.specs.declared.directive.Method.TheVariants.{Strict, Fifo, Lifo}
-use Rattle.lines.specs.declared.fault.DirectiveFault.{DirectiveFault}
-use Rattle.lines.specs.declared.fault.DirectiveFault.TheVariants as fault
+use Rattle.lines.specs.declared.fault.LineFault.{LineFault}
+use Rattle.lines.specs.declared.fault.LineFault.TheVariants as fault
 use Rattle.lines.proofs.Fronts.{gap_length, here, at_start, start_is, spaces_pass, pass_spaces, same_spot}
 use Rattle.lines.proofs.Steps.{err_ok, same_ok, from_and_then, ends_found, ends_only}
 
@@ -45,7 +46,7 @@ module _ (line : List ℕ) where
   to_quoted : (s : Spot) (n : ℕ) → quoted_length s.text ≡ Some n → quoted_at s ≡ Ok (shown s n)
   unfolding quoted_at
   to_quoted s n e =
-      let made : Option ℕ → Result Spot QuoteFault = λ o. ok_or (option_map (shown s) o) (record { place = s.place }) in
+      let made : Option ℕ → Result Spot FieldFault = λ o. ok_or (option_map (shown s) o) (QuotedText s.place) in
       ap made e
 
   abbrev start : ℕ → Spot
@@ -58,8 +59,8 @@ module _ (line : List ℕ) where
   unfolding quoted_from
   quoted_found from q e =
       let s = start from in
-      let k : Spot → Result QuotedSaid DirectiveFault = λ text. Ok (record { text = text; end = s.place + length text.text + 1 }) in
-      let a = from_and_then fault.Quote (quoted_at s) k q e in
+      let k : Spot → Result QuotedSaid LineFault = λ text. Ok (record { text = text; end = s.place + length text.text + 1 }) in
+      let a = from_and_then fault.Field (quoted_at s) k q e in
       let t = a.0 in
       let f = from_quoted s t a.1 in
       let said : ◌≡◌ {A = QuotedSaid} (record { text = t; end = s.place + length t.text + 1 }) q = same_ok a.2 in
@@ -115,9 +116,9 @@ module _ (line : List ℕ) where
   pub transaction_sound : (d : ℕ) (flag : Flag) (from : ℕ) (s : Said) → transaction_from line d flag from ≡ Ok s → (text : Spot) × (tail : List ℕ) × (r : ℕ) × (s ≡ transaction d flag text) × Quoted (from + 1) (drop from line) text tail r × Spaces tail
   unfolding transaction_from
   transaction_sound d flag from s e =
-      let a = from_and_then (λ (f : DirectiveFault). f) (quoted_from line from) (λ (q : QuotedSaid). and_then fault.Form (ends_at line q.end) (λ _. Ok (transaction d flag q.text))) s e in
+      let a = from_and_then (λ (f : LineFault). f) (quoted_from line from) (λ (q : QuotedSaid). and_then (λ (f : LineFault). f) (ends_at line q.end) (λ _. Ok (transaction d flag q.text))) s e in
       let q = a.0 in
-      let b = from_and_then fault.Form (ends_at line q.end) (λ _. Ok (transaction d flag q.text)) s a.2 in
+      let b = from_and_then (λ (f : LineFault). f) (ends_at line q.end) (λ _. Ok (transaction d flag q.text)) s a.2 in
       (q.text, drop q.end line, q.end + 1, sym (same_ok b.2), quoted_found from q a.1, ends_found line q.end b.0 b.1)
 
   pub transaction_complete : (d : ℕ) (flag : Flag) (from : ℕ) (text : Spot) (tail : List ℕ) (r : ℕ) → Quoted (from + 1) (drop from line) text tail r → Spaces tail → transaction_from line d flag from ≡ Ok (transaction d flag text)
@@ -157,10 +158,10 @@ module _ (line : List ℕ) where
   value_sound : (from : ℕ) (s : Said) → method_from line from ≡ Ok s → (value : Spot) × (m : Method) × (tail : List ℕ) × (r : ℕ) × (s ≡ booking_method m) × Quoted (from + 1) (drop from line) value tail r × (value.text ≡ method_name m) × Spaces tail
   unfolding method_from
   value_sound from s e =
-      let a = from_and_then (λ (f : DirectiveFault). f) (quoted_from line from) (λ (v : QuotedSaid). and_then (λ (f : DirectiveFault). f) (method_or v.text.place (method_named v.text.text)) (λ (m : Method). and_then fault.Form (ends_at line v.end) (λ _. Ok (booking_method m)))) s e in
+      let a = from_and_then (λ (f : LineFault). f) (quoted_from line from) (λ (v : QuotedSaid). and_then (λ (f : LineFault). f) (method_or v.text.place (method_named v.text.text)) (λ (m : Method). and_then (λ (f : LineFault). f) (ends_at line v.end) (λ _. Ok (booking_method m)))) s e in
       let q = a.0 in
-      let b = from_and_then (λ (f : DirectiveFault). f) (method_or q.text.place (method_named q.text.text)) (λ (m : Method). and_then fault.Form (ends_at line q.end) (λ _. Ok (booking_method m))) s a.2 in
-      let c = from_and_then fault.Form (ends_at line q.end) (λ _. Ok (booking_method b.0)) s b.2 in (
+      let b = from_and_then (λ (f : LineFault). f) (method_or q.text.place (method_named q.text.text)) (λ (m : Method). and_then (λ (f : LineFault). f) (ends_at line q.end) (λ _. Ok (booking_method m))) s a.2 in
+      let c = from_and_then (λ (f : LineFault). f) (ends_at line q.end) (λ _. Ok (booking_method b.0)) s b.2 in (
         q.text,
         b.0,
         drop q.end line,
@@ -183,7 +184,7 @@ module _ (line : List ℕ) where
   pub option_sound : (from : ℕ) (s : Said) → option_from line from ≡ Ok s → (name : Spot) × (r₁ : List ℕ) × (q₁ : ℕ) × (value : Spot) × (m : Method) × (r₂ : List ℕ) × (q₂ : ℕ) × (s ≡ booking_method m) × Quoted (from + 1) (drop from line) name r₁ q₁ × (name.text ≡ codes "booking_method") × Quoted q₁ r₁ value r₂ q₂ × (value.text ≡ method_name m) × Spaces r₂
   unfolding option_from is_method_option
   option_sound from s e =
-      let a = from_and_then (λ (f : DirectiveFault). f) (quoted_from line from) (λ (n : QuotedSaid). cond (is_method_option n.text.text) (method_from line n.end) (Err (fault.Form n.text.place))) s e in
+      let a = from_and_then (λ (f : LineFault). f) (quoted_from line from) (λ (n : QuotedSaid). cond (is_method_option n.text.text) (method_from line n.end) (Err (fault.Form n.text.place))) s e in
       let q = a.0 in
       ⊎_elim
       (λ (y : is_method_option q.text.text ≡ true).

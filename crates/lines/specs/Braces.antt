@@ -9,8 +9,8 @@ use Rattle.fields.specs.Results.{bind, and_then}
 use Rattle.fields.specs.Spots.{Spot, commodity_at}
 use Rattle.lines.specs.Cuts.{missing}
 use Rattle.lines.specs.Said.{CostSaid, BracesSaid, empty, cost, date, cost_and_date}
-use Rattle.lines.specs.declared.fault.CostFault.{CostFault}
-use Rattle.lines.specs.declared.fault.CostFault.TheVariants as fault
+use Rattle.lines.specs.declared.fault.LineFault.{LineFault}
+use Rattle.lines.specs.declared.fault.LineFault.TheVariants as fault
 
 -- a comma stands at an index, and a space behind it
 abbrev pub separates : List ℕ → ℕ → Bool
@@ -56,6 +56,13 @@ part_after n s = record { text = drop n s.text; place = s.place + n }
 abbrev pub part_before : ℕ → Spot → Spot
 part_before n s = record { text = take n s.text; place = s.place }
 
+-- the parts before and behind the first comma with a space behind it, if there is one
+abbrev pub parts_cut : Spot → Option (Spot × Spot)
+parts_cut s =
+    cond (nat_lt (before_separator s.text) (length s.text))
+    (Some (part_before (before_separator s.text) s, part_after (before_separator s.text + 2) s))
+    None
+
 -- a cost, then a comma and a space, then a date
 unfoldable pub two_parts : Spot → ℕ → Option Shape
 two_parts s n = bind (two_words (part_before n s)) (λ w. option_map (λ d. both_parts w d) (word_at (part_after (n + 2) s)))
@@ -70,26 +77,26 @@ shape s =
     (cond (nat_lt (before_separator s.text) (length s.text)) (two_parts s (before_separator s.text)) (one_part s))
 
 -- a cost has no minus; its number is read first
-unfoldable pub cost_in : ℕ → Words → Result CostSaid CostFault
+unfoldable pub cost_in : ℕ → Words → Result CostSaid LineFault
 cost_in brace w =
-    and_then fault.Number (number_at w.number.text w.number.place) (λ v.
+    and_then fault.Field (number_at w.number.text w.number.place) (λ v.
     cond (has_minus w.number.text) (Err (fault.Braces brace))
-    (and_then fault.Name (commodity_at w.commodity) (λ c. Ok (record { number = w.number; hundredths = v; commodity = c }))))
+    (and_then fault.Field (commodity_at w.commodity) (λ c. Ok (record { number = w.number; hundredths = v; commodity = c }))))
 
-unfoldable pub date_in : Spot → Result ℕ CostFault
-date_in s = and_then fault.Date (date_at s.text s.place) (λ d. Ok d)
+unfoldable pub date_in : Spot → Result ℕ LineFault
+date_in s = and_then fault.Field (date_at s.text s.place) (λ d. Ok d)
 
 -- what parts in braces at the place `brace` say
-abbrev pub shaped : ℕ → Shape → Result BracesSaid CostFault
+abbrev pub shaped : ℕ → Shape → Result BracesSaid LineFault
 shaped brace no_part = Ok empty
 shaped brace (cost_part w) = and_then (λ f. f) (cost_in brace w) (λ c. Ok (cost c))
 shaped brace (date_part s) = and_then (λ f. f) (date_in s) (λ d. Ok (date d))
 shaped brace (both_parts w s) = and_then (λ f. f) (cost_in brace w) (λ c. and_then (λ f. f) (date_in s) (λ d. Ok (cost_and_date c d)))
 
-abbrev pub inside_by : ℕ → Option Shape → Result BracesSaid CostFault
+abbrev pub inside_by : ℕ → Option Shape → Result BracesSaid LineFault
 inside_by brace None = Err (fault.Braces brace)
 inside_by brace (Some sh) = shaped brace sh
 
 -- the text between braces: its shape comes first, then its fields from left to right
-unfoldable pub inside : ℕ → Spot → Result BracesSaid CostFault
+unfoldable pub inside : ℕ → Spot → Result BracesSaid LineFault
 inside brace s = inside_by brace (shape s)

@@ -5,7 +5,6 @@ pub mod Braces
 pub mod Shapes
 pub mod Postings
 pub mod Directives
-pub mod Quotes
 pub mod Lines
 pub mod Journals
 pub mod Grammar

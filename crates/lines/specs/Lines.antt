@@ -7,11 +7,11 @@ use Rattle.fields.specs.Results.{and_then}
 use Rattle.refusal.specs.declared.Fault.{Fault}
 use Rattle.refusal.specs.declared.Refusal.TheVariants.{WrongByte}
 use Rattle.lines.specs.Directives.{directive_line}
-use Rattle.lines.specs.Faults.{directive_from_posting, fault_on}
+use Rattle.lines.specs.Faults.{fault_on}
 use Rattle.lines.specs.Postings.{posting_of}
 use Rattle.lines.specs.Said.{Said, posting}
-use Rattle.lines.specs.declared.fault.DirectiveFault.{DirectiveFault}
-use Rattle.lines.specs.declared.fault.DirectiveFault.TheVariants as fault
+use Rattle.lines.specs.declared.fault.LineFault.{LineFault}
+use Rattle.lines.specs.declared.fault.LineFault.TheVariants as fault
 use Rattle.lines.specs.declared.line.LineKind.{LineKind}
 use Rattle.lines.specs.declared.line.LineKind.TheVariants as kind
 
@@ -37,19 +37,19 @@ wrong_byte line =
 unfoldable pub line_kind : List ℕ → LineKind
 line_kind line = cond (nat_le (length line) 120 && all_in Space line) kind.Blank (cond (slice_index line 0 == 32) kind.Posting kind.Other)
 
-abbrev pub unless_wrong : {A : Type 0} → Option ℕ → Result A DirectiveFault → Result A DirectiveFault
+abbrev pub unless_wrong : {A : Type 0} → Option ℕ → Result A LineFault → Result A LineFault
 unless_wrong (Some place) r = Err (fault.WrongByte place)
 unless_wrong None r = r
 
 -- a wrong byte comes before any other fault of its line
-unfoldable pub posting_line : List ℕ → Result Said DirectiveFault
-posting_line line = unless_wrong (wrong_byte line) (and_then directive_from_posting (posting_of line) (λ p. Ok (posting p)))
+unfoldable pub posting_line : List ℕ → Result Said LineFault
+posting_line line = unless_wrong (wrong_byte line) (and_then (λ f. f) (posting_of line) (λ p. Ok (posting p)))
 
-unfoldable pub other_line : ℕ → List ℕ → Result Said DirectiveFault
+unfoldable pub other_line : ℕ → List ℕ → Result Said LineFault
 other_line number line = unless_wrong (wrong_byte line) (directive_line number line)
 
 -- what a line of some kind says: nothing if it is blank
-abbrev pub by_kind : ℕ → List ℕ → LineKind → Result (Option Said) DirectiveFault
+abbrev pub by_kind : ℕ → List ℕ → LineKind → Result (Option Said) LineFault
 by_kind number line kind.Blank = Ok None
 by_kind number line kind.Posting = and_then (λ f. f) (posting_line line) (λ s. Ok (Some s))
 by_kind number line kind.Other = and_then (λ f. f) (other_line number line) (λ s. Ok (Some s))

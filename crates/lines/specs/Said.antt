@@ -1,12 +1,11 @@
 -- What a line says, without the addresses of its fields in memory. Assumes nothing.
-use Rattle.std.specs.Prelude.{ℕ, ℤ, Option}
+use Rattle.std.specs.Prelude.{ℕ, ℤ, Option, Some, None}
 use Rattle.std.specs.Option.{option_map}
 use Rattle.fields.specs.Spots.{Spot, seen}
 use Rattle.lines.specs.declared.directive.Method.{Method}
 use Rattle.values.specs.declared.flag.Flag.{Flag}
 use Rattle.lines.specs.declared.directive.Cost.{Cost}
 use Rattle.lines.specs.declared.directive.Braces.{Braces}
-use Rattle.lines.specs.declared.directive.Braces.TheVariants as braces
 use Rattle.lines.specs.declared.directive.Units.{Units}
 use Rattle.lines.specs.declared.directive.Posting.{Posting}
 use Rattle.lines.specs.declared.directive.Directive.{Directive}
@@ -46,25 +45,28 @@ pub data Said : Type 0 where
   posting : PostingSaid → Said
 
 abbrev pub cost_said : Cost → CostSaid
-cost_said c = record { number = seen c.number; hundredths = c.hundredths; commodity = seen c.commodity }
+cost_said c = record { number = seen c.number; hundredths = c.amount.hundredths; commodity = seen c.commodity }
+
+abbrev pub braces_of : Option CostSaid → Option ℕ → BracesSaid
+braces_of None None = empty
+braces_of (Some c) None = cost c
+braces_of None (Some d) = date d
+braces_of (Some c) (Some d) = cost_and_date c d
 
 abbrev pub braces_said : Braces → BracesSaid
-braces_said braces.Empty = empty
-braces_said (braces.Cost c) = cost (cost_said c)
-braces_said (braces.Date d) = date d
-braces_said (braces.CostAndDate c d) = cost_and_date (cost_said c) d
+braces_said b = braces_of (option_map cost_said b.cost) (option_map (λ d. d.number) b.date)
 
 abbrev pub units_said : Units → UnitsSaid
-units_said u = record { number = seen u.number; hundredths = u.hundredths; commodity = seen u.commodity; braces = option_map braces_said u.braces }
+units_said u = record { number = seen u.number; hundredths = u.amount.hundredths; commodity = seen u.commodity; braces = option_map braces_said u.braces }
 
 abbrev pub posting_said : Posting → PostingSaid
 posting_said p = record { account = seen p.account; units = option_map units_said p.units }
 
 abbrev pub said : Directive → Said
 said (directive.BookingMethod m) = booking_method m
-said (directive.Commodity d n) = commodity d (seen n)
-said (directive.Open d a c) = opening d (seen a) (option_map seen c)
-said (directive.Close d a) = closing d (seen a)
-said (directive.Balance d a n v c) = balance d (seen a) (seen n) v (seen c)
-said (directive.Transaction d f t) = transaction d f (seen t)
+said (directive.Commodity d n) = commodity d.number (seen n)
+said (directive.Open d a c) = opening d.number (seen a) (option_map seen c)
+said (directive.Close d a) = closing d.number (seen a)
+said (directive.Balance d a n v c) = balance d.number (seen a) (seen n) v.hundredths (seen c)
+said (directive.Transaction d f t) = transaction d.number f (seen t)
 said (directive.Posting p) = posting (posting_said p)

@@ -1,10 +1,11 @@
-// What a line says. Names, numbers and the parts of braces are parts of the journal, each with its place;
-// dates and amounts stand as their plain numbers.
+// What a line says. Names, numbers and the parts of braces are parts of the journal, each with its place.
 use fields::field::Field;
+use values::amount::Amount;
+use values::date::Date;
 use values::flag::Flag;
 
 // The booking method that the option line names.
-#[derive(Clone, Copy)]
+#[derive(Clone, Copy, Debug, PartialEq, Eq)]
 pub enum Method {
     Strict,
     Fifo,
@@ -15,24 +16,22 @@ pub enum Method {
 #[derive(Clone, Copy)]
 pub struct Cost<'a> {
     pub number: Field<'a>,
-    pub hundredths: i32,
+    pub amount: Amount,
     pub commodity: Field<'a>,
 }
 
-// What a posting's braces say: nothing, a cost, a date, or both.
+// What a posting's braces say of the lots that are meant.
 #[derive(Clone, Copy)]
-pub enum Braces<'a> {
-    Empty,
-    Cost(Cost<'a>),
-    Date(u32),
-    CostAndDate(Cost<'a>, u32),
+pub struct Braces<'a> {
+    pub cost: Option<Cost<'a>>,
+    pub date: Option<Date>,
 }
 
 // A posting's amount, with braces where it speaks of lots.
 #[derive(Clone, Copy)]
 pub struct Units<'a> {
     pub number: Field<'a>,
-    pub hundredths: i32,
+    pub amount: Amount,
     pub commodity: Field<'a>,
     pub braces: Option<Braces<'a>>,
 }
@@ -48,27 +47,27 @@ pub struct Posting<'a> {
 pub enum Directive<'a> {
     BookingMethod(Method),
     Commodity {
-        date: u32,
+        date: Date,
         name: Field<'a>,
     },
     Open {
-        date: u32,
+        date: Date,
         account: Field<'a>,
         commodity: Option<Field<'a>>,
     },
     Close {
-        date: u32,
+        date: Date,
         account: Field<'a>,
     },
     Balance {
-        date: u32,
+        date: Date,
         account: Field<'a>,
         number: Field<'a>,
-        hundredths: i32,
+        amount: Amount,
         commodity: Field<'a>,
     },
     Transaction {
-        date: u32,
+        date: Date,
         flag: Flag,
         text: Field<'a>,
     },

@@ -1,60 +1,50 @@
 // Lines that start with a date, and the option line.
-ghost use Rattle.std.specs.Prelude.{◌≡◌, ◌+◌, ◌≤◌, length, IfOk};
+ghost use Rattle.std.specs.Prelude.{◌≡◌};
 ghost use Rattle.std.specs.Option.{option_map};
 ghost use Rattle.fields.specs.Results.{map_ok};
 ghost use Rattle.fields.specs.Spots.{seen};
 ghost use Rattle.lines.specs.Said.{said};
-ghost use Rattle.lines.specs.Quotes.{quoted_said};
-ghost use Rattle.lines.specs.Directives.{commodity_from, own_from, open_from, close_from, balance_from, quoted_from, transaction_from, dated_from, dated_line, method_named, method_from, is_method_option, option_from, directive_line};
+ghost use Rattle.lines.specs.Directives.{commodity_from, own_from, open_from, close_from, balance_from, transaction_from, dated_from, dated_line, keyword_named, method_named, method_from, option_from, directive_line};
 
-use crate::cut::{next_field, rest_from};
+use crate::cursor::Cursor;
 use crate::directive::{Directive, Method};
-use crate::fault::DirectiveFault;
-use crate::postings::read_end;
-use crate::shapes::Quoted;
+use crate::fault::LineFault;
 use byte_text::{byte_at, same};
 use fields::date::read_date;
 use fields::field::Field;
 use fields::name::{read_account_name, read_commodity_name};
 use fields::number::read_number;
-use fields::quoted::read_quoted;
+use values::date::Date;
 use values::flag::Flag;
 
-fn read_commodity<'a>(
-    line: &'a [u8],
-    date: u32,
-    from: usize,
-) -> Result<Directive<'a>, DirectiveFault>
-    requires { from ≤ length line.now }
-    ensures { map_ok said result ≡ commodity_from line.now date from }
+#[tactic(auto, unfolding(crate::specs::Directives::commodity_from))]
+fn read_commodity<'a>(mut line: Cursor<'a>, date: Date) -> Result<Directive<'a>, LineFault>
+    ensures { map_ok said result ≡ commodity_from line.entry.bytes.now date.number line.entry.at }
 {
-    let first = next_field(line, from);
-    let name = read_commodity_name(first.field)?;
-    read_end(line, first.end)?;
+    let name = read_commodity_name(line.next_field())?;
+    line.read_end()?;
     Ok(Directive::Commodity { date, name })
 }
 
 // The commodity that an account keeps, or nothing.
-fn read_own<'a>(line: &'a [u8], from: usize) -> Result<Option<Field<'a>>, DirectiveFault>
-    requires { from ≤ length line.now }
-    ensures { map_ok (option_map seen) result ≡ own_from line.now from }
+#[tactic(auto, unfolding(crate::specs::Directives::own_from))]
+fn read_own<'a>(mut line: Cursor<'a>) -> Result<Option<Field<'a>>, LineFault>
+    ensures { map_ok (option_map seen) result ≡ own_from line.entry.bytes.now line.entry.at }
 {
-    let first = next_field(line, from);
-    if first.field.text.len() == 0 {
+    if line.is_at_end() {
         return Ok(None);
     }
-    let own = read_commodity_name(first.field)?;
-    read_end(line, first.end)?;
+    let own = read_commodity_name(line.next_field())?;
+    line.read_end()?;
     Ok(Some(own))
 }
 
-fn read_open<'a>(line: &'a [u8], date: u32, from: usize) -> Result<Directive<'a>, DirectiveFault>
-    requires { from ≤ length line.now }
-    ensures { map_ok said result ≡ open_from line.now date from }
+#[tactic(auto, unfolding(crate::specs::Directives::open_from))]
+fn read_open<'a>(mut line: Cursor<'a>, date: Date) -> Result<Directive<'a>, LineFault>
+    ensures { map_ok said result ≡ open_from line.entry.bytes.now date.number line.entry.at }
 {
-    let first = next_field(line, from);
-    let account = read_account_name(first.field)?;
-    let commodity = read_own(line, first.end)?;
+    let account = read_account_name(line.next_field())?;
+    let commodity = read_own(line)?;
     Ok(Directive::Open {
         date,
         account,
@@ -62,160 +52,140 @@ fn read_open<'a>(line: &'a [u8], date: u32, from: usize) -> Result<Directive<'a>
     })
 }
 
-fn read_close<'a>(line: &'a [u8], date: u32, from: usize) -> Result<Directive<'a>, DirectiveFault>
-    requires { from ≤ length line.now }
-    ensures { map_ok said result ≡ close_from line.now date from }
+#[tactic(auto, unfolding(crate::specs::Directives::close_from))]
+fn read_close<'a>(mut line: Cursor<'a>, date: Date) -> Result<Directive<'a>, LineFault>
+    ensures { map_ok said result ≡ close_from line.entry.bytes.now date.number line.entry.at }
 {
-    let first = next_field(line, from);
-    let account = read_account_name(first.field)?;
-    read_end(line, first.end)?;
+    let account = read_account_name(line.next_field())?;
+    line.read_end()?;
     Ok(Directive::Close { date, account })
 }
 
-fn read_balance<'a>(line: &'a [u8], date: u32, from: usize) -> Result<Directive<'a>, DirectiveFault>
-    requires { from ≤ length line.now }
-    ensures { map_ok said result ≡ balance_from line.now date from }
+#[tactic(auto, unfolding(crate::specs::Directives::balance_from))]
+fn read_balance<'a>(mut line: Cursor<'a>, date: Date) -> Result<Directive<'a>, LineFault>
+    ensures { map_ok said result ≡ balance_from line.entry.bytes.now date.number line.entry.at }
 {
-    let first = next_field(line, from);
-    let account = read_account_name(first.field)?;
-    let second = next_field(line, first.end);
-    let amount = read_number(second.field)?;
-    let third = next_field(line, second.end);
-    let commodity = read_commodity_name(third.field)?;
-    read_end(line, third.end)?;
+    let account = read_account_name(line.next_field())?;
+    let number = line.next_field();
+    let amount = read_number(number)?;
+    let commodity = read_commodity_name(line.next_field())?;
+    line.read_end()?;
     Ok(Directive::Balance {
         date,
         account,
-        number: second.field,
-        hundredths: amount.hundredths(),
+        number,
+        amount,
         commodity,
     })
 }
 
-// A quoted text, and the index behind it.
-fn read_text<'a>(line: &'a [u8], from: usize) -> Result<Quoted<'a>, DirectiveFault>
-    requires { from ≤ length line.now }
-    ensures value { map_ok quoted_said result ≡ quoted_from line.now from }
-    ensures within { IfOk result (λ q. q.end ≤ length line.now) }
+#[tactic(auto, unfolding(crate::specs::Directives::transaction_from))]
+fn read_transaction<'a>(
+    mut line: Cursor<'a>,
+    date: Date,
+    flag: Flag,
+) -> Result<Directive<'a>, LineFault>
+    ensures { map_ok said result ≡ transaction_from line.entry.bytes.now date.number flag line.entry.at }
 {
-    let rest = rest_from(line, from);
-    let text = read_quoted(rest)?;
-    Ok(Quoted {
-        text,
-        end: rest.place + text.text.len() + 1,
-    })
+    let text = line.next_quoted()?;
+    line.read_end()?;
+    Ok(Directive::Transaction { date, flag, text })
 }
 
-fn read_transaction<'a>(
-    line: &'a [u8],
-    date: u32,
-    flag: Flag,
-    from: usize,
-) -> Result<Directive<'a>, DirectiveFault>
-    requires { from ≤ length line.now }
-    ensures { map_ok said result ≡ transaction_from line.now date flag from }
+// The word behind a date.
+#[derive(Clone, Copy)]
+enum Keyword {
+    Commodity,
+    Open,
+    Close,
+    Balance,
+    Transaction(Flag),
+}
+
+fn keyword_of(word: &[u8]) -> Option<Keyword>
+    ensures { result ≡ keyword_named word.now }
 {
-    let quoted = read_text(line, from)?;
-    read_end(line, quoted.end)?;
-    Ok(Directive::Transaction {
-        date,
-        flag,
-        text: quoted.text,
-    })
+    match word {
+        b"commodity" => Some(Keyword::Commodity),
+        b"open" => Some(Keyword::Open),
+        b"close" => Some(Keyword::Close),
+        b"balance" => Some(Keyword::Balance),
+        b"*" => Some(Keyword::Transaction(Flag::Complete)),
+        b"!" => Some(Keyword::Transaction(Flag::Incomplete)),
+        _ => None,
+    }
 }
 
 // The word behind the date, and what belongs to it.
-fn read_by_word<'a>(line: &'a [u8], date: u32, from: usize) -> Result<Directive<'a>, DirectiveFault>
-    requires { from ≤ length line.now }
-    ensures { map_ok said result ≡ dated_from line.now date from }
+#[tactic(auto, using(crate::proofs::Keywords::by_keyword_named), unfolding(crate::specs::Directives::dated_from))]
+fn read_by_word<'a>(mut line: Cursor<'a>, date: Date) -> Result<Directive<'a>, LineFault>
+    ensures { map_ok said result ≡ dated_from line.entry.bytes.now date.number line.entry.at }
 {
-    let word = next_field(line, from);
-    if same(word.field.text, b"commodity") {
-        return read_commodity(line, date, word.end);
+    let word = line.next_field();
+    match keyword_of(word.text) {
+        Some(Keyword::Commodity) => read_commodity(line, date),
+        Some(Keyword::Open) => read_open(line, date),
+        Some(Keyword::Close) => read_close(line, date),
+        Some(Keyword::Balance) => read_balance(line, date),
+        Some(Keyword::Transaction(flag)) => read_transaction(line, date, flag),
+        None => Err(LineFault::Form(word.place)),
     }
-    if same(word.field.text, b"open") {
-        return read_open(line, date, word.end);
-    }
-    if same(word.field.text, b"close") {
-        return read_close(line, date, word.end);
-    }
-    if same(word.field.text, b"balance") {
-        return read_balance(line, date, word.end);
-    }
-    if same(word.field.text, b"*") {
-        return read_transaction(line, date, Flag::Complete, word.end);
-    }
-    if same(word.field.text, b"!") {
-        return read_transaction(line, date, Flag::Incomplete, word.end);
-    }
-    Err(DirectiveFault::Form(word.field.place))
 }
 
-fn read_dated<'a>(line: &'a [u8]) -> Result<Directive<'a>, DirectiveFault>
+#[tactic(auto, unfolding(crate::specs::Directives::dated_line))]
+fn read_dated<'a>(line: &'a [u8]) -> Result<Directive<'a>, LineFault>
     ensures { map_ok said result ≡ dated_line line.now }
 {
-    let first = next_field(line, 0);
-    let date = read_date(first.field)?;
-    read_by_word(line, date.number(), first.end)
+    let mut line = Cursor::start(line);
+    let date = read_date(line.next_field())?;
+    read_by_word(line, date)
 }
 
 fn method_of(name: &[u8]) -> Option<Method>
     ensures { result ≡ method_named name.now }
 {
-    if same(name, b"STRICT") {
-        return Some(Method::Strict);
+    match name {
+        b"STRICT" => Some(Method::Strict),
+        b"FIFO" => Some(Method::Fifo),
+        b"LIFO" => Some(Method::Lifo),
+        _ => None,
     }
-    if same(name, b"FIFO") {
-        return Some(Method::Fifo);
-    }
-    if same(name, b"LIFO") {
-        return Some(Method::Lifo);
-    }
-    None
 }
 
-fn read_method<'a>(line: &'a [u8], from: usize) -> Result<Directive<'a>, DirectiveFault>
-    requires { from ≤ length line.now }
-    ensures { map_ok said result ≡ method_from line.now from }
+#[tactic(auto, unfolding(crate::specs::Directives::method_from))]
+fn read_method<'a>(mut line: Cursor<'a>) -> Result<Directive<'a>, LineFault>
+    ensures { map_ok said result ≡ method_from line.entry.bytes.now line.entry.at }
 {
-    let value = read_text(line, from)?;
-    let Some(method) = method_of(value.text.text) else {
-        return Err(DirectiveFault::Form(value.text.place));
+    let value = line.next_quoted()?;
+    let Some(method) = method_of(value.text) else {
+        return Err(LineFault::Form(value.place));
     };
-    read_end(line, value.end)?;
+    line.read_end()?;
     Ok(Directive::BookingMethod(method))
 }
 
-fn names_method(option: &[u8]) -> bool
-    ensures { result ≡ is_method_option option.now }
+#[tactic(auto, unfolding(crate::specs::Directives::option_from, crate::specs::Directives::is_method_option))]
+fn read_option<'a>(mut line: Cursor<'a>) -> Result<Directive<'a>, LineFault>
+    ensures { map_ok said result ≡ option_from line.entry.bytes.now line.entry.at }
 {
-    same(option, b"booking_method")
-}
-
-fn read_option<'a>(line: &'a [u8], from: usize) -> Result<Directive<'a>, DirectiveFault>
-    requires { from ≤ length line.now }
-    ensures { map_ok said result ≡ option_from line.now from }
-{
-    let name = read_text(line, from)?;
-    if !names_method(name.text.text) {
-        return Err(DirectiveFault::Form(name.text.place));
+    let name = line.next_quoted()?;
+    if !same(name.text, b"booking_method") {
+        return Err(LineFault::Form(name.place));
     }
-    read_method(line, name.end)
+    read_method(line)
 }
 
 // A line that is no posting.
-pub(crate) fn read_directive<'a>(
-    line: &'a [u8],
-    number: u32,
-) -> Result<Directive<'a>, DirectiveFault>
+#[tactic(auto, unfolding(crate::specs::Directives::directive_line))]
+pub(crate) fn read_directive<'a>(line: &'a [u8], number: u32) -> Result<Directive<'a>, LineFault>
     ensures { map_ok said result ≡ directive_line number line.now }
 {
     if byte_at(line, 0).is_ascii_digit() {
         return read_dated(line);
     }
-    let first = next_field(line, 0);
-    if number == 1 && same(first.field.text, b"option") {
-        return read_option(line, first.end);
+    let mut line = Cursor::start(line);
+    if number == 1 && same(line.next_field().text, b"option") {
+        return read_option(line);
     }
-    Err(DirectiveFault::Form(1))
+    Err(LineFault::Form(1))
 }

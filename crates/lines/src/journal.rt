@@ -28,10 +28,13 @@ pub fn check_journal(journal: &[u8]) -> Result<(), Fault>
     Ok(())
 }
 
-fn cut_line<'a>(journal: &'a [u8]) -> Option<LineCut<'a>>
-    ensures { option_map cut_said result ≡ first_line journal.now }
+// The first line of what is left of a journal, if any.
+pub fn split_line<'a>(journal: &'a [u8]) -> Option<LineCut<'a>>
+    ensures value { option_map cut_said result ≡ first_line journal.now }
+    ensures lines { lines_of journal.now ≡ lines_by result }
+    ensures shorter { IfSome result (λ c. length c.rest.now < length journal.now) }
 {
-    if journal.len() == 0 {
+    if journal.is_empty() {
         return None;
     }
     let n = run_of(ByteClass::Except(b'\n'), journal);
@@ -39,13 +42,4 @@ fn cut_line<'a>(journal: &'a [u8]) -> Option<LineCut<'a>>
         line: front(journal, n),
         rest: after(journal, n + 1),
     })
-}
-
-// The first line of what is left of a journal, if any.
-pub fn split_line<'a>(journal: &'a [u8]) -> Option<LineCut<'a>>
-    ensures value { option_map cut_said result ≡ first_line journal.now }
-    ensures lines { lines_of journal.now ≡ lines_by result }
-    ensures shorter { IfSome result (λ c. length c.rest.now < length journal.now) }
-{
-    cut_line(journal)
 }

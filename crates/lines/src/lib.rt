@@ -2,7 +2,7 @@
 #![tactic(auto)]
 
 mod braces;
-mod cut;
+mod cursor;
 pub mod directive;
 mod directives;
 pub mod fault;

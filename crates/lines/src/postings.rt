@@ -1,105 +1,90 @@
 // Posting lines.
-ghost use Rattle.std.specs.Prelude.{◌≡◌, ◌+◌, ◌^◌, ◌<◌, ◌≤◌, length};
+ghost use Rattle.std.specs.Prelude.{◌≡◌};
 ghost use Rattle.std.specs.Option.{option_map};
 ghost use Rattle.fields.specs.Results.{map_ok};
 ghost use Rattle.lines.specs.Said.{braces_said, units_said, posting_said};
-ghost use Rattle.lines.specs.Postings.{ends_at, braces_from, braces_at, units_at, posting_of};
+ghost use Rattle.lines.specs.Postings.{braces_from, braces_at, units_at, posting_of};
 
-use crate::braces::read_inside;
-use crate::cut::next_field;
+use crate::braces::{Part, read_inside};
+use crate::cursor::Cursor;
 use crate::directive::{Braces, Posting, Units};
-use crate::fault::PostingFault;
-use byte_text::{ByteClass, after, byte_at, front, run_of};
+use crate::fault::LineFault;
+use byte_text::{ByteClass, front, run_of};
 use fields::field::Field;
 use fields::name::{read_account_name, read_commodity_name};
 use fields::number::read_number;
 use fields::quoted::ends_field;
 
-// Nothing stands from here on, or the place of the field too many.
-pub(crate) fn read_end(line: &[u8], from: usize) -> Result<(), usize>
-    requires { from ≤ length line.now }
-    ensures { result ≡ ends_at line.now from }
+// Braces, up to the end of the line; the line is read up to the byte behind the opening one.
+#[tactic(auto, unfolding(crate::specs::Postings::braces_from))]
+fn read_braces<'a>(line: Cursor<'a>) -> Result<Option<Braces<'a>>, LineFault>
+    ensures { map_ok (option_map braces_said) result ≡ braces_from line.entry.bytes.now line.entry.at }
 {
-    let extra = next_field(line, from);
-    if extra.field.text.len() == 0 {
-        Ok(())
-    } else {
-        Err(extra.field.place)
-    }
-}
-
-// Braces that open at a place, up to the end of the line.
-fn read_braces<'a>(line: &'a [u8], brace: usize) -> Result<Option<Braces<'a>>, PostingFault>
-    requires { (brace ≤ length line.now) × (length line.now ≤ 120) }
-    ensures { map_ok (option_map braces_said) result ≡ braces_from line.now brace }
-{
-    let body = after(line, brace);
+    // the brace's place, counted from 1, is the index behind it
+    let brace = line.index();
+    let body = line.unread();
     let n = run_of(ByteClass::Except(b'}'), body);
-    if brace + n == line.len() {
-        return Err(PostingFault::Braces(brace));
+    if n == body.len() {
+        return Err(LineFault::Braces(brace));
     }
-    let behind = brace + n + 1;
-    if !ends_field(after(line, behind)) {
-        return Err(PostingFault::Braces(brace));
+    let behind = line.moved_to(brace + n + 1);
+    if !ends_field(behind.unread()) {
+        return Err(LineFault::Braces(brace));
     }
-    let braces = read_inside(
-        Field {
+    let inside = Part {
+        field: Field {
             text: front(body, n),
             place: brace + 1,
         },
-        brace,
-    )?;
-    read_end(line, behind)?;
+    };
+    let braces = read_inside(inside, brace)?;
+    behind.read_end()?;
     Ok(Some(braces))
 }
 
 // Braces, or nothing, behind a posting's units.
-fn read_lot<'a>(line: &'a [u8], from: usize) -> Result<Option<Braces<'a>>, PostingFault>
-    requires { (from ≤ length line.now) × (length line.now ≤ 120) }
-    ensures { map_ok (option_map braces_said) result ≡ braces_at line.now from }
+#[tactic(auto, unfolding(crate::specs::Postings::braces_at))]
+fn read_lot<'a>(mut line: Cursor<'a>) -> Result<Option<Braces<'a>>, LineFault>
+    ensures { map_ok (option_map braces_said) result ≡ braces_at line.entry.bytes.now line.entry.at }
 {
-    let first = next_field(line, from);
-    if first.field.text.len() == 0 {
-        return Ok(None);
+    let first = line.next_field();
+    match first.text {
+        [] => Ok(None),
+        [b'{', ..] => read_braces(line.moved_to(first.place)),
+        _ => Err(LineFault::Form(first.place)),
     }
-    if byte_at(first.field.text, 0) != b'{' {
-        return Err(PostingFault::Form(first.field.place));
-    }
-    read_braces(line, first.field.place)
 }
 
-fn read_units<'a>(line: &'a [u8], from: usize) -> Result<Units<'a>, PostingFault>
-    requires { (from ≤ length line.now) × (length line.now ≤ 120) }
-    ensures { map_ok units_said result ≡ units_at line.now from }
+#[tactic(auto, unfolding(crate::specs::Postings::units_at))]
+fn read_units<'a>(mut line: Cursor<'a>) -> Result<Units<'a>, LineFault>
+    ensures { map_ok units_said result ≡ units_at line.entry.bytes.now line.entry.at }
 {
-    let first = next_field(line, from);
-    let amount = read_number(first.field)?;
-    let second = next_field(line, first.end);
-    let commodity = read_commodity_name(second.field)?;
-    let braces = read_lot(line, second.end)?;
+    let number = line.next_field();
+    let amount = read_number(number)?;
+    let commodity = read_commodity_name(line.next_field())?;
+    let braces = read_lot(line)?;
     Ok(Units {
-        number: first.field,
-        hundredths: amount.hundredths(),
+        number,
+        amount,
         commodity,
         braces,
     })
 }
 
 // A posting line.
-pub(crate) fn read_posting<'a>(line: &'a [u8]) -> Result<Posting<'a>, PostingFault>
-    requires { length line.now ≤ 120 }
+#[tactic(auto, unfolding(crate::specs::Postings::posting_of))]
+pub(crate) fn read_posting<'a>(line: &'a [u8]) -> Result<Posting<'a>, LineFault>
     ensures { map_ok posting_said result ≡ posting_of line.now }
 {
-    let first = next_field(line, 0);
-    let account = read_account_name(first.field)?;
-    let second = next_field(line, first.end);
-    if second.field.text.len() == 0 {
+    let mut line = Cursor::start(line);
+    let account = read_account_name(line.next_field())?;
+    if line.is_at_end() {
         return Ok(Posting {
             account,
             units: None,
         });
     }
-    let units = read_units(line, first.end)?;
+    let units = read_units(line)?;
     Ok(Posting {
         account,
         units: Some(units),

@@ -9,16 +9,7 @@ pub(crate) struct Words<'a> {
 }
 
 #[derive(Clone, Copy)]
-pub(crate) enum Shape<'a> {
-    Empty,
-    Cost(Words<'a>),
-    Date(Field<'a>),
-    Both(Words<'a>, Field<'a>),
-}
-
-// A quoted text, and the index behind its closing quote.
-#[derive(Clone, Copy)]
-pub(crate) struct Quoted<'a> {
-    pub(crate) text: Field<'a>,
-    pub(crate) end: usize,
+pub(crate) struct Shape<'a> {
+    pub(crate) cost: Option<Words<'a>>,
+    pub(crate) date: Option<Field<'a>>,
 }

@@ -5,6 +5,8 @@ use fields::field::Field;
 use lines::directive::{Braces, Cost, Directive, Method, Posting, Units};
 use refusal::Fault;
 use std::fmt;
+use values::amount::Amount;
+use values::date::Date;
 use values::flag::Flag;
 
 // An amount in hundredths, with two decimals.
@@ -15,9 +17,7 @@ impl fmt::Display for Decimal {
     fn fmt<W: fmt::Write>(&self, f: &mut fmt::Formatter<W>) -> fmt::Result {
         let sign = if self.0 < 0 { "-" } else { "" };
         let size = self.0.unsigned_abs();
-        let whole = size / 100;
-        let cents = size % 100;
-        write!(f, "{sign}{whole}.{cents:02}")
+        write!(f, "{sign}{}.{:02}", size / 100, size % 100)
     }
 }
 
@@ -27,140 +27,174 @@ pub struct Day(pub u32);
 
 impl fmt::Display for Day {
     fn fmt<W: fmt::Write>(&self, f: &mut fmt::Formatter<W>) -> fmt::Result {
-        let year = self.0 / 10_000;
-        let month = self.0 / 100 % 100;
-        let day = self.0 % 100;
-        write!(f, "{year:04}-{month:02}-{day:02}")
+        let number = self.0;
+        write!(
+            f,
+            "{:04}-{:02}-{:02}",
+            number / 10_000,
+            number / 100 % 100,
+            number % 100
+        )
     }
 }
 
-// A field's bytes, as they stand in the journal.
+// A part of a line, or the whole of it, as it is listed.
 #[derive(Clone, Copy)]
-pub struct Bytes<'a>(pub &'a [u8]);
+pub struct Listed<T>(pub T);
 
-impl fmt::Display for Bytes<'_> {
+impl fmt::Display for Listed<&[u8]> {
     fn fmt<W: fmt::Write>(&self, f: &mut fmt::Formatter<W>) -> fmt::Result {
         for b in self.0 {
-            f.write_char(*b as char)?;
+            f.write_char(char::from(*b))?;
         }
         Ok(())
     }
 }
 
-fn show_field<W: fmt::Write>(field: Field<'_>, f: &mut fmt::Formatter<W>) -> fmt::Result {
-    write!(f, " {}", Bytes(field.text))
+impl fmt::Display for Listed<Amount> {
+    fn fmt<W: fmt::Write>(&self, f: &mut fmt::Formatter<W>) -> fmt::Result {
+        write!(f, "{}", Decimal(self.0.hundredths()))
+    }
 }
 
-fn show_cost<W: fmt::Write>(cost: Cost<'_>, f: &mut fmt::Formatter<W>) -> fmt::Result {
-    write!(f, "{}", Decimal(cost.hundredths))?;
-    show_field(cost.commodity, f)
+impl fmt::Display for Listed<Date> {
+    fn fmt<W: fmt::Write>(&self, f: &mut fmt::Formatter<W>) -> fmt::Result {
+        write!(f, "{}", Day(self.0.number()))
+    }
 }
 
-fn show_braces<W: fmt::Write>(braces: Braces<'_>, f: &mut fmt::Formatter<W>) -> fmt::Result {
-    write!(f, " {{")?;
-    match braces {
-        Braces::Empty => {}
-        Braces::Cost(cost) => show_cost(cost, f)?,
-        Braces::Date(date) => write!(f, "{}", Day(date))?,
-        Braces::CostAndDate(cost, date) => {
-            show_cost(cost, f)?;
-            write!(f, ", {}", Day(date))?
+impl fmt::Display for Listed<Field<'_>> {
+    fn fmt<W: fmt::Write>(&self, f: &mut fmt::Formatter<W>) -> fmt::Result {
+        write!(f, "{}", Listed(self.0.text))
+    }
+}
+
+impl fmt::Display for Listed<Method> {
+    fn fmt<W: fmt::Write>(&self, f: &mut fmt::Formatter<W>) -> fmt::Result {
+        f.write_str(match self.0 {
+            Method::Strict => "STRICT",
+            Method::Fifo => "FIFO",
+            Method::Lifo => "LIFO",
+        })
+    }
+}
+
+impl fmt::Display for Listed<Flag> {
+    fn fmt<W: fmt::Write>(&self, f: &mut fmt::Formatter<W>) -> fmt::Result {
+        f.write_char(match self.0 {
+            Flag::Complete => '*',
+            Flag::Incomplete => '!',
+        })
+    }
+}
+
+impl fmt::Display for Listed<Cost<'_>> {
+    fn fmt<W: fmt::Write>(&self, f: &mut fmt::Formatter<W>) -> fmt::Result {
+        let cost = self.0;
+        write!(f, "{} {}", Listed(cost.amount), Listed(cost.commodity))
+    }
+}
+
+impl fmt::Display for Listed<Braces<'_>> {
+    fn fmt<W: fmt::Write>(&self, f: &mut fmt::Formatter<W>) -> fmt::Result {
+        let braces = self.0;
+        write!(f, "{{")?;
+        if let Some(cost) = braces.cost {
+            write!(f, "{}", Listed(cost))?;
         }
+        if braces.cost.is_some() && braces.date.is_some() {
+            write!(f, ", ")?;
+        }
+        if let Some(date) = braces.date {
+            write!(f, "{}", Listed(date))?;
+        }
+        write!(f, "}}")
     }
-    write!(f, "}}")
 }
 
-fn show_units<W: fmt::Write>(units: Units<'_>, f: &mut fmt::Formatter<W>) -> fmt::Result {
-    write!(f, " {}", Decimal(units.hundredths))?;
-    show_field(units.commodity, f)?;
-    if let Some(braces) = units.braces {
-        show_braces(braces, f)?;
+impl fmt::Display for Listed<Units<'_>> {
+    fn fmt<W: fmt::Write>(&self, f: &mut fmt::Formatter<W>) -> fmt::Result {
+        let units = self.0;
+        write!(f, "{} {}", Listed(units.amount), Listed(units.commodity))?;
+        if let Some(braces) = units.braces {
+            write!(f, " {}", Listed(braces))?;
+        }
+        Ok(())
     }
-    Ok(())
 }
 
-fn show_posting<W: fmt::Write>(posting: Posting<'_>, f: &mut fmt::Formatter<W>) -> fmt::Result {
-    write!(f, "posting")?;
-    show_field(posting.account, f)?;
-    if let Some(units) = posting.units {
-        show_units(units, f)?;
+impl fmt::Display for Listed<Posting<'_>> {
+    fn fmt<W: fmt::Write>(&self, f: &mut fmt::Formatter<W>) -> fmt::Result {
+        let posting = self.0;
+        write!(f, "posting {}", Listed(posting.account))?;
+        if let Some(units) = posting.units {
+            write!(f, " {}", Listed(units))?;
+        }
+        Ok(())
     }
-    Ok(())
 }
 
 // What a line says: its kind and its fields.
-#[derive(Clone, Copy)]
-pub struct Line<'a>(pub Directive<'a>);
-
-impl fmt::Display for Line<'_> {
+impl fmt::Display for Listed<Directive<'_>> {
     fn fmt<W: fmt::Write>(&self, f: &mut fmt::Formatter<W>) -> fmt::Result {
         match self.0 {
-            Directive::BookingMethod(Method::Strict) => write!(f, "option booking_method STRICT"),
-            Directive::BookingMethod(Method::Fifo) => write!(f, "option booking_method FIFO"),
-            Directive::BookingMethod(Method::Lifo) => write!(f, "option booking_method LIFO"),
+            Directive::BookingMethod(method) => {
+                write!(f, "option booking_method {}", Listed(method))
+            }
             Directive::Commodity { date, name } => {
-                write!(f, "commodity {}", Day(date))?;
-                show_field(name, f)
+                write!(f, "commodity {} {}", Listed(date), Listed(name))
             }
             Directive::Open {
                 date,
                 account,
                 commodity,
             } => {
-                write!(f, "open {}", Day(date))?;
-                show_field(account, f)?;
+                write!(f, "open {} {}", Listed(date), Listed(account))?;
                 if let Some(own) = commodity {
-                    show_field(own, f)?;
+                    write!(f, " {}", Listed(own))?;
                 }
                 Ok(())
             }
             Directive::Close { date, account } => {
-                write!(f, "close {}", Day(date))?;
-                show_field(account, f)
+                write!(f, "close {} {}", Listed(date), Listed(account))
             }
             Directive::Balance {
                 date,
                 account,
-                number: _,
-                hundredths,
+                amount,
                 commodity,
-            } => {
-                write!(f, "balance {}", Day(date))?;
-                show_field(account, f)?;
-                write!(f, " {}", Decimal(hundredths))?;
-                show_field(commodity, f)
-            }
-            Directive::Transaction { date, flag, text } => {
-                let mark = match flag {
-                    Flag::Complete => '*',
-                    Flag::Incomplete => '!',
-                };
-                write!(
-                    f,
-                    "transaction {} {mark} \"{}\"",
-                    Day(date),
-                    Bytes(text.text)
-                )
-            }
-            Directive::Posting(posting) => show_posting(posting, f),
+                ..
+            } => write!(
+                f,
+                "balance {} {} {} {}",
+                Listed(date),
+                Listed(account),
+                Listed(amount),
+                Listed(commodity)
+            ),
+            Directive::Transaction { date, flag, text } => write!(
+                f,
+                "transaction {} {} \"{}\"",
+                Listed(date),
+                Listed(flag),
+                Listed(text)
+            ),
+            Directive::Posting(posting) => write!(f, "{}", Listed(posting)),
         }
     }
 }
 
 // A refusal as it is reported.
-#[derive(Clone, Copy)]
-pub struct Refused(pub Fault);
-
-impl fmt::Display for Refused {
+impl fmt::Display for Listed<Fault> {
     fn fmt<W: fmt::Write>(&self, f: &mut fmt::Formatter<W>) -> fmt::Result {
         let fault = self.0;
-        let number = fault.refusal.number();
-        let line = fault.line;
-        let place = fault.place;
-        let layer = fault.refusal.layer().name();
         write!(
             f,
-            "refused {number} line {line} place {place} layer {layer}"
+            "refused {} line {} place {} layer {}",
+            fault.refusal.number(),
+            fault.line,
+            fault.place,
+            fault.refusal.layer().name()
         )
     }
 }

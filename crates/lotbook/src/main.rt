@@ -1,162 +1,122 @@
 // lotbook: reads a journal from standard input and prints what each line says, or how it is refused.
 #![tactic(auto)]
 
-use byte_text::front;
 use lines::directive::Directive;
 use lines::journal::{check_journal, split_line};
 use lines::line::read_line;
-use listing::{Line, Refused};
+use listing::Listed;
 use refusal::Fault;
+use std::alloc::{AllocError, Global};
+use std::collections::BTreeMap;
 use std::fmt::Write;
-use std::io;
 use std::io::Read;
 
-// The longest journal, and how many lines it can have.
-const JOURNAL_BYTES: usize = 60_000;
+// The longest journal.
+const JOURNAL_BYTES: u64 = 60_000;
+
+// What a line can say, in the order in which the program counts it up.
+const KINDS: [&str; 8] = [
+    "blank",
+    "option",
+    "commodity",
+    "open",
+    "close",
+    "balance",
+    "transaction",
+    "posting",
+];
+
+fn kind_of(directive: Directive<'_>) -> &'static str {
+    match directive {
+        Directive::BookingMethod(_) => "option",
+        Directive::Commodity { .. } => "commodity",
+        Directive::Open { .. } => "open",
+        Directive::Close { .. } => "close",
+        Directive::Balance { .. } => "balance",
+        Directive::Transaction { .. } => "transaction",
+        Directive::Posting(_) => "posting",
+    }
+}
 
 // How many lines were read, by what they say, and how many refusals, by number.
 #[derive(Drop)]
 struct Account {
     lines: u32,
-    blank: u32,
-    option: u32,
-    commodity: u32,
-    opening: u32,
-    closing: u32,
-    balance: u32,
-    transaction: u32,
-    posting: u32,
-    refused: [u32; 33],
+    kinds: BTreeMap<&'static str, u32>,
+    refused: BTreeMap<u8, u32>,
 }
 
-fn one_more(count: &mut u32) {
+fn one_more<K: Ord + Drop>(counts: &mut BTreeMap<K, u32>, key: K) -> Result<(), AllocError> {
+    let count = counts.entry(key)?.or_insert(0);
     *count = count.saturating_add(1);
+    Ok(())
 }
 
 impl Account {
-    fn new() -> Account {
+    fn new(alloc: Global) -> Account {
         Account {
             lines: 0,
-            blank: 0,
-            option: 0,
-            commodity: 0,
-            opening: 0,
-            closing: 0,
-            balance: 0,
-            transaction: 0,
-            posting: 0,
-            refused: [0; 33],
+            kinds: BTreeMap::new(alloc),
+            refused: BTreeMap::new(alloc),
         }
     }
 
-    fn count(&mut self, directive: &Directive<'_>) {
-        match directive {
-            Directive::BookingMethod(_) => one_more(&mut self.option),
-            Directive::Commodity { .. } => one_more(&mut self.commodity),
-            Directive::Open { .. } => one_more(&mut self.opening),
-            Directive::Close { .. } => one_more(&mut self.closing),
-            Directive::Balance { .. } => one_more(&mut self.balance),
-            Directive::Transaction { .. } => one_more(&mut self.transaction),
-            Directive::Posting(_) => one_more(&mut self.posting),
+    fn list_refusal(&mut self, out: &mut String, fault: Fault) -> anyhow::Result<()> {
+        one_more(&mut self.refused, fault.refusal.number())?;
+        writeln!(out, "{}", Listed(fault))?;
+        Ok(())
+    }
+
+    fn list_line(&mut self, out: &mut String, text: &[u8]) -> anyhow::Result<()> {
+        self.lines = self.lines.saturating_add(1);
+        let number = self.lines;
+        match read_line(text, number) {
+            Ok(None) => one_more(&mut self.kinds, "blank")?,
+            Ok(Some(directive)) => {
+                one_more(&mut self.kinds, kind_of(directive))?;
+                writeln!(out, "line {number} {}", Listed(directive))?;
+            }
+            Err(fault) => self.list_refusal(out, fault)?,
         }
+        Ok(())
     }
 
-    fn count_refusal(&mut self, fault: Fault) {
-        let number = fault.refusal.number() as usize;
-        if number < 33 {
-            self.refused[number] = self.refused[number].saturating_add(1);
+    fn list_journal(&mut self, out: &mut String, journal: &[u8]) -> anyhow::Result<()> {
+        if let Err(fault) = check_journal(journal) {
+            return self.list_refusal(out, fault);
         }
-    }
-}
-
-// What the next read gives, added to the journal; how many bytes, 0 at the end.
-fn read_some(rt: &HostRuntime, journal: &mut Vec<u8>) -> io::Result<usize> {
-    let mut buf = [0u8; 4096];
-    let n = rt.stdin().read(&mut buf)?;
-    journal.extend_from_slice(front(&buf, n))?;
-    Ok(n)
-}
-
-// Standard input up to its end, or up to the first byte too many.
-fn read_input(rt: &HostRuntime) -> io::Result<Vec<u8>> {
-    let mut journal = Vec::new(rt.alloc());
-    // each read but the last brings a byte at least
-    for _ in 0..=JOURNAL_BYTES {
-        if journal.len() > JOURNAL_BYTES || read_some(rt, &mut journal)? == 0 {
-            break;
+        let mut rest = journal;
+        while let Some(cut) = split_line(rest) {
+            self.list_line(out, cut.line)?;
+            rest = cut.rest;
         }
+        Ok(())
     }
-    Ok(journal)
-}
 
-// Lists one line, and counts it.
-fn list_line(
-    account: &mut Account,
-    out: &mut String,
-    text: &[u8],
-    number: u32,
-) -> anyhow::Result<()> {
-    account.lines = number;
-    match read_line(text, number) {
-        Ok(None) => one_more(&mut account.blank),
-        Ok(Some(directive)) => {
-            account.count(&directive);
-            writeln!(out, "line {number} {}", Line(directive))?;
+    fn list_counts(&self, out: &mut String) -> anyhow::Result<()> {
+        writeln!(out, "lines {}", self.lines)?;
+        for kind in KINDS {
+            let count = self.kinds.get(kind).copied().unwrap_or(0);
+            writeln!(out, "{kind} {count}")?;
         }
-        Err(fault) => {
-            account.count_refusal(fault);
-            writeln!(out, "{}", Refused(fault))?;
-        }
-    }
-    Ok(())
-}
-
-fn list_journal(account: &mut Account, out: &mut String, journal: &[u8]) -> anyhow::Result<()> {
-    if let Err(fault) = check_journal(journal) {
-        account.count_refusal(fault);
-        writeln!(out, "{}", Refused(fault))?;
-        return Ok(());
-    }
-    let mut rest = journal;
-    for number in 1..=60_000 {
-        let Some(cut) = split_line(rest) else {
-            return Ok(());
-        };
-        list_line(account, out, cut.line, number)?;
-        rest = cut.rest;
-    }
-    Ok(())
-}
-
-fn list_account(account: &Account, out: &mut String) -> anyhow::Result<()> {
-    writeln!(out, "lines {}", account.lines)?;
-    writeln!(out, "blank {}", account.blank)?;
-    writeln!(out, "option {}", account.option)?;
-    writeln!(out, "commodity {}", account.commodity)?;
-    writeln!(out, "open {}", account.opening)?;
-    writeln!(out, "close {}", account.closing)?;
-    writeln!(out, "balance {}", account.balance)?;
-    writeln!(out, "transaction {}", account.transaction)?;
-    writeln!(out, "posting {}", account.posting)?;
-    for (number, count) in account.refused.iter().enumerate() {
-        if *count > 0 {
+        for (number, count) in &self.refused {
             writeln!(out, "refusal {number}: {count}")?;
         }
+        Ok(())
     }
-    Ok(())
-}
-
-fn run(rt: &HostRuntime) -> anyhow::Result<()> {
-    let journal = read_input(rt)?;
-    let mut out = String::new(rt.alloc());
-    let mut account = Account::new();
-    list_journal(&mut account, &mut out, journal.as_slice())?;
-    list_account(&account, &mut out)?;
-    writeln!(out, "text only: nothing was booked")?;
-    rt.print(out.as_str())?;
-    Ok(())
 }
 
 fn main(rt: HostRuntime) -> anyhow::Result<()> {
-    run(&rt)
+    let mut journal = Vec::new(rt.alloc());
+    // one byte too many is enough to refuse the journal
+    rt.stdin()
+        .take(JOURNAL_BYTES + 1)
+        .read_to_end(&mut journal)?;
+    let mut out = String::new(rt.alloc());
+    let mut account = Account::new(rt.alloc());
+    account.list_journal(&mut out, journal.as_slice())?;
+    account.list_counts(&mut out)?;
+    writeln!(out, "text only: nothing was booked")?;
+    rt.print(out.as_str())?;
+    Ok(())
 }

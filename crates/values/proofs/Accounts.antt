@@ -1,13 +1,13 @@
 -- An account's name is spelled as it is tested.
 use Rattle.std.proofs.Common.{◌≡◌, ℕ, ◌≤◌, true, false, not, eqb, leb, ◌⊎◌, List, [], ◌∷◌, ◌++◌, length, get_or, codes, Decides, sym, refl, ap, ◌∙◌, subst, ⊎_elim, arith}
-use Rattle.std.specs.List.{AllByRecursion, list_all}
+use Rattle.std.specs.List.{AllByRecursion, list_all, onto_first}
 use Rattle.std.proofs.lemmas.Slice.Eq.{bytes_eq-Decides}
 use Rattle.std.proofs.lemmas.Bool.{and_parts, and_from, le-leb, leb-true, cases_Bool, eqb-true, ne_eqb, not-true, false≢true}
 use Rattle.std.proofs.lemmas.Bool.Decides.{nat_tests, Decides-and, Decides-or, Decides-like, Decides-eqb}
 use Rattle.std.proofs.ByRecursion.{Decides-by_and}
 use Rattle.byte_text.specs.Classes.{in_class}
 use Rattle.byte_text.specs.declared.ByteClass.TheVariants.{CommodityName, AccountPart}
-use Rattle.values.specs.Names.{is_account_name, is_part, is_root, split_at, onto_first, root_and_parts}
+use Rattle.values.specs.Names.{is_account_name, is_part, is_root, split_at, root_and_parts}
 use Rattle.values.specs.Spelling.{Capital, Lowercase, Digit, Starts, Root, Part, joined_by_colons, IsAccountName}
 use Rattle.values.proofs.Commodities.{within_decides, capital_or_digit}
 

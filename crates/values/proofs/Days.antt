@@ -1,9 +1,7 @@
 -- A day's number and its parts.
-use Rattle.std.proofs.Common.{◌≡◌, ℕ, ◌/◌, ◌%◌, ◌<◌, ◌≤◌, true, false, ◌&&◌, leb, is_some, Some, None, Decides, Option, sym, ap, ◌∙◌, arith, MatchOption}
+use Rattle.std.proofs.Common.{◌≡◌, ℕ, ◌/◌, ◌%◌, ◌<◌, ◌≤◌, ◌&&◌, leb, Decides, ap, ◌∙◌, arith}
 use Rattle.std.proofs.lemmas.Bool.{and_parts, and_from, le-leb, leb-true}
-use Rattle.std.proofs.lemmas.Bool.Decides.{Decides-at}
 use Rattle.values.specs.Calendar.{month_length, is_calendar_day, is_day, CalendarDay, day_number, DayNumber}
-use Rattle.values.specs.declared.date.Date.{Date}
 
 year_of : (y m d : ℕ) → m < 100 → d < 100 → day_number y m d / 10000 ≡ y
 year_of y m d p q = omega arith
@@ -61,10 +59,3 @@ day_decides n = (
       ∙ day_parts d.0 d.1 d.2 (omega (arith, c.to_december)) (omega (arith, c.to_last))
       ∙ (calendar_decides d.0 d.1 d.2).1 c,
 )
-
-some_day : (r : Option Date) (n : ℕ) → MatchOption r (is_day n ≡ false) (λ x. (is_day n ≡ true) × (x.number ≡ n)) → is_some r ≡ is_day n
-some_day None n h = sym h
-some_day (Some x) n h = sym h.0
-
-pub found_exactly : (r : Option Date) (n : ℕ) → MatchOption r (is_day n ≡ false) (λ x. (is_day n ≡ true) × (x.number ≡ n)) → Decides (is_some r) (DayNumber n)
-found_exactly r n h = Decides-at _ _ (some_day r n h) (day_decides n)

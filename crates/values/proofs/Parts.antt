@@ -1,12 +1,10 @@
 -- A text cut at a byte: its first part, and the parts after it.
-use Rattle.std.proofs.Common.{◌≡◌, ℕ, suc, ◌+◌, ◌-◌, ◌<◌, ◌≤◌, Bool, true, false, ◌&&◌, eqb, leb, List, [], ◌∷◌, length, take, drop, sym, refl, ap, ◌∙◌, ⊎_elim, add-one, one-add, arith}
+use Rattle.std.proofs.Common.{◌≡◌, ℕ, ◌+◌, ◌<◌, ◌≤◌, Bool, true, false, ◌&&◌, eqb, leb, List, [], ◌∷◌, length, take, drop, sym, refl, ap, ◌∙◌, ⊎_elim, add-one, one-add, arith}
 use Rattle.std.proofs.lemmas.List.{take_all}
 use Rattle.std.proofs.lemmas.List.Sums.{prefix_len-le-length}
-use Rattle.std.proofs.lemmas.Bool.Decides.{nat_tests}
-use Rattle.std.proofs.lemmas.Bool.{cases_Bool, cases_lt, and_left, and_right, and_from, lt-leb, le-leb}
-use Rattle.std.specs.List.{list_all}
+use Rattle.std.proofs.lemmas.Bool.{cases_Bool, cases_lt, and_left, and_right, lt-leb, le-leb}
 use Rattle.byte_text.specs.Classes.{before}
-use Rattle.values.specs.Names.{split_at, is_part, is_root, all_parts, root_and_parts, is_account_name}
+use Rattle.values.specs.Names.{split_at, is_root, all_parts, root_and_parts, is_account_name}
 
 pub split_last : (c : ℕ) (xs : List ℕ) → before c xs ≡ length xs → split_at c xs ≡ xs ∷ []
 split_last c [] h = refl
@@ -37,28 +35,6 @@ split_first c xs =
     before_within : (c : ℕ) (xs : List ℕ) → before c xs ≤ length xs
     before_within c xs = prefix_len-le-length _ xs
 
-one_fewer : (n m : ℕ) → 0 < m → leb (suc n) m ≡ leb n (m - 1)
-one_fewer n m h = grind (arith, nat_tests)
-
-pub parts_stop : (m : ℕ) (xs : List ℕ) → is_part (take (before 58 xs) xs) ≡ false → all_parts m (split_at 58 xs) ≡ false
-parts_stop m xs e = let s = split_first 58 xs in rw s.1 (and_left _ _ (and_left _ _ e))
-
-pub parts_none : (xs : List ℕ) → all_parts 0 (split_at 58 xs) ≡ false
-parts_none xs =
-    let s = split_first 58 xs in
-    rw s.1 (and_right _ _ (lt-leb (length (take (before 58 xs) xs ∷ s.0)) 0 (omega arith)))
-
-pub parts_end : (m : ℕ) (xs : List ℕ) → before 58 xs ≡ length xs → is_part (take (before 58 xs) xs) ≡ true → 0 < m → all_parts m (split_at 58 xs) ≡ true
-parts_end m xs e p h =
-    let t = take_all (before 58 xs) xs (omega arith) in
-    let q = ap is_part (sym t) ∙ p in
-    rw (split_last 58 xs e) (and_from _ _ (and_from _ _ q refl) (le-leb _ _ (omega arith)))
-
-pub parts_more : (m : ℕ) (xs : List ℕ) → before 58 xs < length xs → is_part (take (before 58 xs) xs) ≡ true → 0 < m → all_parts m (split_at 58 xs) ≡ all_parts (m - 1) (split_at 58 (drop (before 58 xs + 1) xs))
-parts_more m xs b p h =
-    rw (split_more 58 xs b, p)
-    (ap (λ (t : Bool). list_all is_part (split_at 58 (drop (before 58 xs + 1) xs)) && t) (one_fewer _ m h))
-
 -- an account's name, by its first part and what stands after the colon
 one_part : (xs : List ℕ) → before 58 xs ≡ length xs → root_and_parts (split_at 58 xs) ≡ false
 one_part xs e = rw (split_last 58 xs e) (and_right _ _ refl)
@@ -70,6 +46,10 @@ more_parts : (xs : List ℕ) → before 58 xs < length xs → root_and_parts (sp
 more_parts xs h =
     rw (split_more 58 xs h)
     (ap (λ (t : Bool). is_root (take (before 58 xs) xs) && (t && all_parts 5 (split_at 58 (drop (before 58 xs + 1) xs)))) (split_some 58 (drop (before 58 xs + 1) xs)))
+
+pub account_long : (xs : List ℕ) → 48 < length xs → is_account_name xs ≡ false
+unfolding is_account_name
+account_long xs h = and_left _ _ (lt-leb (length xs) 48 h)
 
 pub account_alone : (xs : List ℕ) → before 58 xs ≡ length xs → is_account_name xs ≡ false
 unfolding is_account_name

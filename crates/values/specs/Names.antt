@@ -1,8 +1,8 @@
 -- Names of commodities and accounts, as tests. Assumes nothing.
-use Rattle.std.specs.Prelude.{ℕ, Bool, false, cond, ◌&&◌, ◌||◌, List, [], ◌∷◌, length, take, codes, ◌==◌, nat_le, slice_index}
+use Rattle.std.specs.Prelude.{ℕ, Bool, false, ◌&&◌, ◌||◌, List, [], ◌∷◌, length, take, codes, ◌==◌, nat_le, slice_index}
 use Rattle.std.specs.Char.{is_ascii_uppercase}
 use Rattle.std.specs.Str.{bytes_eq}
-use Rattle.std.specs.List.{list_all}
+use Rattle.std.specs.List.{list_all, slice_split}
 use Rattle.byte_text.specs.Classes.{in_class, all_in}
 use Rattle.byte_text.specs.declared.ByteClass.TheVariants.{CommodityName, AccountPart}
 
@@ -11,13 +11,8 @@ unfoldable pub is_commodity_name : List ℕ → Bool
 is_commodity_name t = (nat_le 2 (length t) && nat_le (length t) 8) && (is_ascii_uppercase (slice_index t 0) && all_in CommodityName t)
 
 -- the parts of a text between its bytes `stop`
-abbrev pub onto_first : ℕ → List (List ℕ) → List (List ℕ)
-onto_first b [] = (b ∷ []) ∷ []
-onto_first b (p ∷ ps) = (b ∷ p) ∷ ps
-
 abbrev pub split_at : ℕ → List ℕ → List (List ℕ)
-split_at stop [] = [] ∷ []
-split_at stop (b ∷ bs) = cond (b == stop) ([] ∷ split_at stop bs) (onto_first b (split_at stop bs))
+split_at stop bs = slice_split (λ b. b == stop) bs
 
 -- starts with A to Z or a digit and goes on with letters, digits or hyphens
 abbrev pub is_part : List ℕ → Bool

@@ -2,7 +2,7 @@
 ghost use Rattle.std.specs.Prelude.{◌≡◌, pos, negsuc, ◌≤ℤ◌, MatchOption};
 ghost use Rattle.values.specs.Amounts.{InRange};
 
-#[derive(Clone, Copy)]
+#[derive(Clone, Copy, Debug, PartialEq, Eq, PartialOrd, Ord)]
 pub struct Amount {
     hundredths: i32,
     ghost ranged: { (negsuc 99999998 ≤ℤ hundredths) × (hundredths ≤ℤ pos 99999999) },
@@ -13,10 +13,11 @@ impl Amount {
     pub fn new(hundredths: i32) -> Option<Amount>
         ensures { MatchOption result (InRange hundredths → ⊥) (λ a. InRange hundredths × (a.hundredths ≡ hundredths)) }
     {
-        if hundredths < -99_999_999 || hundredths > 99_999_999 {
-            return None;
+        if (-99_999_999..=99_999_999).contains(&hundredths) {
+            Some(Amount { hundredths })
+        } else {
+            None
         }
-        Some(Amount { hundredths })
     }
 
     pub fn hundredths(self) -> i32

@@ -1,8 +1,8 @@
 // A Gregorian day of the years 1970 to 2199, by its number: year * 10,000 + month * 100 + day.
 ghost use Rattle.std.specs.Prelude.{◌≡◌, true, false, is_some, Decides, MatchOption};
-ghost use Rattle.values.specs.Calendar.{is_day, month_length, DayNumber};
+ghost use Rattle.values.specs.Calendar.{is_calendar_day, is_day, month_length, DayNumber};
 
-#[derive(Clone, Copy)]
+#[derive(Clone, Copy, Debug, PartialEq, Eq, PartialOrd, Ord)]
 pub struct Date {
     number: u32,
     ghost calendar: { is_day number ≡ true },
@@ -23,19 +23,10 @@ pub fn month_days(year: u32, month: u32) -> u32
     }
 }
 
-fn date_of(number: u32) -> Option<Date>
-    ensures { MatchOption result (is_day number ≡ false) (λ d. (is_day number ≡ true) × (d.number ≡ number)) }
+fn is_calendar_day(year: u32, month: u32, day: u32) -> bool
+    ensures { result ≡ is_calendar_day year month day }
 {
-    let year = number / 10_000;
-    let month = number / 100 % 100;
-    let day = number % 100;
-    if year < 1970 || year > 2199 || month < 1 || month > 12 || day < 1 {
-        return None;
-    }
-    if day > month_days(year, month) {
-        return None;
-    }
-    Some(Date { number })
+    matches!((year, month), (1970..=2199, 1..=12)) && (1..=month_days(year, month)).contains(&day)
 }
 
 impl Date {
@@ -44,7 +35,11 @@ impl Date {
         ensures value { MatchOption result (is_day number ≡ false) (λ d. (is_day number ≡ true) × (d.number ≡ number)) }
         ensures exactly { Decides (is_some result) (DayNumber number) }
     {
-        date_of(number)
+        if is_calendar_day(number / 10_000, number / 100 % 100, number % 100) {
+            Some(Date { number })
+        } else {
+            None
+        }
     }
 
     pub fn number(self) -> u32

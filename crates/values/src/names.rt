@@ -3,23 +3,16 @@ ghost use Rattle.std.specs.Prelude.{◌≡◌, Decides};
 ghost use Rattle.values.specs.Names.{is_commodity_name, is_part, is_root, all_parts, is_account_name, lies_under, split_at};
 ghost use Rattle.values.specs.Spelling.{IsCommodityName, IsAccountName, LiesUnder};
 
-use byte_text::{ByteClass, after, all_of, byte_at, front, run_of, same};
-
-fn fits_commodity(text: &[u8]) -> bool
-    ensures { result ≡ is_commodity_name text.now }
-{
-    text.len() >= 2
-        && text.len() <= 8
-        && byte_at(text, 0).is_ascii_uppercase()
-        && all_of(ByteClass::CommodityName, text)
-}
+use byte_text::{ByteClass, after, all_of, byte_at, front, run_of};
 
 // Whether a text is a commodity's name: 2 to 8 bytes A to Z or 0 to 9, the first a letter.
 pub fn is_commodity_name(text: &[u8]) -> bool
     ensures value { result ≡ is_commodity_name text.now }
     ensures exactly { Decides result (IsCommodityName text.now) }
 {
-    fits_commodity(text)
+    (2..=8).contains(&text.len())
+        && byte_at(text, 0).is_ascii_uppercase()
+        && all_of(ByteClass::CommodityName, text)
 }
 
 // A part of an account's name behind the first.
@@ -32,45 +25,17 @@ fn is_name_part(text: &[u8]) -> bool
 fn is_root_name(text: &[u8]) -> bool
     ensures { result ≡ is_root text.now }
 {
-    same(text, b"Assets")
-        || same(text, b"Liabilities")
-        || same(text, b"Equity")
-        || same(text, b"Income")
-        || same(text, b"Expenses")
+    matches!(
+        text,
+        b"Assets" | b"Liabilities" | b"Equity" | b"Income" | b"Expenses"
+    )
 }
 
 // Whether a text is made of parts joined by colons, at most so many.
 fn are_parts(text: &[u8], most: usize) -> bool
     ensures { result ≡ all_parts most (split_at 58 text.now) }
 {
-    let mut rest = text;
-    for _ in 0..most {
-        let n = run_of(ByteClass::Except(b':'), rest);
-        if !is_name_part(front(rest, n)) {
-            return false;
-        }
-        if n == rest.len() {
-            return true;
-        }
-        rest = after(rest, n + 1);
-    }
-    false
-}
-
-fn fits_account(text: &[u8]) -> bool
-    ensures { result ≡ is_account_name text.now }
-{
-    if text.len() > 48 {
-        return false;
-    }
-    let n = run_of(ByteClass::Except(b':'), text);
-    if n == text.len() {
-        return false;
-    }
-    if !is_root_name(front(text, n)) {
-        return false;
-    }
-    are_parts(after(text, n + 1), 5)
+    text.split(|b| *b == b':').all(is_name_part) && text.split(|b| *b == b':').count() <= most
 }
 
 // Whether a text is an account's name: at most 48 bytes, two to six parts joined by colons, the first
@@ -79,14 +44,11 @@ pub fn is_account_name(text: &[u8]) -> bool
     ensures value { result ≡ is_account_name text.now }
     ensures exactly { Decides result (IsAccountName text.now) }
 {
-    fits_account(text)
-}
-
-fn reaches_up_to(account: &[u8], above: &[u8]) -> bool
-    ensures { result ≡ lies_under account.now above.now }
-{
-    same(account, above)
-        || (same(front(account, above.len()), above) && byte_at(account, above.len()) == b':')
+    let n = run_of(ByteClass::Except(b':'), text);
+    if text.len() > 48 || n == text.len() {
+        return false;
+    }
+    is_root_name(front(text, n)) && are_parts(after(text, n + 1), 5)
 }
 
 // Whether an account lies under another: it is that one, or starts with its name and a colon.
@@ -94,5 +56,7 @@ pub fn is_under(account: &[u8], above: &[u8]) -> bool
     ensures value { result ≡ lies_under account.now above.now }
     ensures exactly { Decides result (LiesUnder account.now above.now) }
 {
-    reaches_up_to(account, above)
+    account
+        .strip_prefix(above)
+        .is_some_and(|rest| matches!(rest, [] | [b':', ..]))
 }

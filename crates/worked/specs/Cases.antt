@@ -5,8 +5,8 @@ use Rattle.refusal.specs.declared.Refusal.{Refusal}
 use Rattle.fields.specs.Dates.{date_at}
 use Rattle.fields.specs.Numbers.{number_at}
 use Rattle.lines.specs.Faults.{fault_on}
-use Rattle.lines.specs.declared.fault.DirectiveFault.{DirectiveFault}
-use Rattle.lines.specs.declared.fault.DirectiveFault.TheVariants as fault
+use Rattle.lines.specs.declared.fault.LineFault.{LineFault}
+use Rattle.lines.specs.declared.fault.LineFault.TheVariants as fault
 use Rattle.lots.specs.Orders.{Order, strict, fifo, lifo, whole_lot}
 use Rattle.lots.specs.declared.rows.Cost.{Cost}
 use Rattle.lots.specs.declared.rows.Key.{Key}
@@ -26,14 +26,14 @@ answer number refusal (Err e) = refused (number_of (refusal e))
 
 -- texts
 
-abbrev pub of_line : DirectiveFault → Refusal
+abbrev pub of_line : LineFault → Refusal
 of_line f = (fault_on 1 f).refusal
 
 abbrev pub date_of : List ℕ → Answer
-date_of text = answer pos (λ f. of_line (fault.Date f)) (date_at text 1)
+date_of text = answer pos (λ f. of_line (fault.Field f)) (date_at text 1)
 
 abbrev pub amount_of : List ℕ → Answer
-amount_of text = answer (λ z. z) (λ f. of_line (fault.Number f)) (number_at text 1)
+amount_of text = answer (λ z. z) (λ f. of_line (fault.Field f)) (number_at text 1)
 
 -- lots: commodity 1 is EUR, commodity 2 the part, and account 1 the shelf
 

@@ -1,20 +1,10 @@
-use Rattle.std.proofs.Common.{sym, arith}
-use Rattle.lines.proofs.Separators.{separator_here, separator_more, separator_end}
+use Rattle.std.proofs.Common.{◌≡◌, true, false, drop, rules, tests}
+use Rattle.std.proofs.lemmas.Iterator.{first_from_Range}
+use Rattle.lines.specs.Braces.{separates}
+use Rattle.lines.proofs.Separators.{separator_found}
 use Rattle.lines.proofs.braces.separator.Goals as goal
-
-pub returns-then-is_separator : goal.returns-then-is_separator
-returns-then-is_separator c =
-    record {
-      value = omega (arith, separator_here _ _ c.loop-i-test.true (sym c.if-is_separator.ensures), c.loop-i.invariant);
-      within = omega arith;
-    }
-
-pub loop-i-preserved : goal.loop-i-preserved
-loop-i-preserved c = omega (arith, separator_more _ _ c.loop-i-test.true (sym c.if-is_separator.ensures), c.loop-i.invariant)
 
 pub returns : goal.returns
 returns c =
-    record {
-      value = omega (arith, separator_end c.args.text.now c.loop-i.i c.loop-i-test.false, c.loop-i.invariant);
-      within = omega arith;
-    }
+    let f = first_from_Range _ _ _ c.find.result (λ k. separates (drop k c.args.text.now) 0 ≡ true) (λ k. separates (drop k c.args.text.now) 0 ≡ false) c.find.ensures.ran (λ x q k. search (rules, tests)) (λ x q k. search (rules, tests)) in
+    separator_found c.find.result c.args.text.now f

@@ -1,8 +1,33 @@
+use Rattle.std.proofs.Common.{◌≡◌, ◌+◌, ◌<◌, false, true, length, take, drop, sym, ◌∙◌, ⊎_elim, arith}
 use Rattle.std.proofs.lemmas.Bool.Decides.{Decides-at}
+use Rattle.byte_text.specs.Classes.{before}
+use Rattle.values.specs.Names.{is_root, is_account_name}
 use Rattle.values.proofs.Accounts.{account_decides}
+use Rattle.values.proofs.Parts.{account_long, account_alone, account_rootless, account_by}
 use Rattle.values.proofs.names.is_account_name.Goals as goal
 
-pub returns : goal.returns
-returns c =
-    let e = c.fits_account.ensures in
+pub returns-then-text-gt48 : goal.returns-then-text-gt48
+returns-then-text-gt48 c =
+    let xs = c.args.text.now in
+    let e : false ≡ is_account_name xs =
+    sym (⊎_elim (account_long xs) (λ w. account_alone xs (sym c.run_of-n.ensures.value ∙ w.1)) c.then-text-gt48.either) in
+    record { value = e; exactly = Decides-at _ _ e (account_decides _) }
+
+pub returns-then-is_root_name : goal.returns-then-is_root_name
+returns-then-is_root_name c =
+    let xs = c.args.text.now in
+    let h : before 58 xs < length xs = omega arith in
+    let p : is_root (take (before 58 xs) xs) ≡ true = cc in
+    let a : c.after.result.now ≡ drop (before 58 xs + 1) xs = cc in
+    let b = account_by xs (omega arith) h p in
+    let e : c.are_parts.result ≡ is_account_name xs = cc in
+    record { value = e; exactly = Decides-at _ _ e (account_decides _) }
+
+pub returns-else-is_root_name : goal.returns-else-is_root_name
+returns-else-is_root_name c =
+    let xs = c.args.text.now in
+    let h : before 58 xs < length xs = omega arith in
+    let p : is_root (take (before 58 xs) xs) ≡ false = cc in
+    let b = account_rootless xs h p in
+    let e : c.is_root_name.result ≡ is_account_name xs = cc in
     record { value = e; exactly = Decides-at _ _ e (account_decides _) }

@@ -1,8 +1,20 @@
+use Rattle.std.proofs.Common.{◌≡◌, arith, rules}
+use Rattle.std.proofs.lemmas.Grind.{common_steps}
 use Rattle.std.proofs.lemmas.Bool.Decides.{Decides-at}
+use Rattle.values.specs.Names.{is_commodity_name}
 use Rattle.values.proofs.Commodities.{commodity_decides}
 use Rattle.values.proofs.names.is_commodity_name.Goals as goal
+use Rattle.values.proofs.names.is_commodity_name.Goals.{then-contains, else-contains}
 
-pub returns : goal.returns
-returns c =
-    let e = c.fits_commodity.ensures in
+pub returns-then-is_ascii_uppercase : goal.returns-then-is_ascii_uppercase
+unfolding is_commodity_name
+returns-then-is_ascii_uppercase c =
+    let e : c.all_of.result ≡ is_commodity_name c.args.text.now = search rules in
+    record { value = e; exactly = Decides-at _ _ e (commodity_decides _) }
+
+pub returns-else-is_ascii_uppercase : goal.returns-else-is_ascii_uppercase
+unfolding is_commodity_name
+returns-else-is_ascii_uppercase c =
+    let e : c.if-contains.value ≡ is_commodity_name c.args.text.now =
+    elim c.if-contains.branch [ then-contains w ↦ grind (arith, common_steps) | else-contains w ↦ grind (arith, common_steps) ] in
     record { value = e; exactly = Decides-at _ _ e (commodity_decides _) }
