@@ -6,7 +6,7 @@ use Rattle.std.proofs.lemmas.Bool.{cond_both, cond-false, cases_Bool, cases_eq, 
 use Rattle.lots.specs.declared.rows.LotRow.{LotRow}
 use Rattle.lots.specs.Rows.{no_lot}
 use Rattle.lots.specs.Orders.{Order, Keeps}
-use Rattle.matching.specs.Matching.{units_matching, lots_matching}
+use Rattle.matching.specs.Matching.{units_matching}
 use Rattle.matching.specs.Places.{NoneMatch, EarliestAt}
 use Rattle.matching.specs.Drawing.{earlier, earliest, settled_with, settled, question}
 use Rattle.matching.specs.Drawn.{SerialsRise, Member, Earliest, Unsettled}
@@ -128,11 +128,3 @@ module _ (o : Order) (keeps : Keeps o) (M : LotRow → Bool) (u : ℕ) (xs : Lis
   unsettled_to ri h =
       let r = h.1.0 in
       answer_at M (o.before u) (keeps.irreflexive u) (keeps.transitive u) (keeps.exactly_one u) (λ r. o.settles (question u M xs r)) xs ri r h.1.1 (earliest M (o.before u) xs) best ∙ h.1.2
-
-  -- with one matching lot every policy settles
-  pub settled_one : lots_matching M xs ≡ 1 → settled o M u xs ≡ true
-  settled_one one = at (earliest M (o.before u) xs)
-    where
-      at : (e : Option LotRow) → settled_with (λ r. o.settles (question u M xs r)) e ≡ true
-      at None = refl
-      at (Some r) = keeps.one_settles (question u M xs r) one

@@ -4,13 +4,11 @@ use Rattle.std.specs.List.{AllByRecursion}
 use Rattle.std.proofs.ByRecursion.{All-weaker}
 use Rattle.std.proofs.lemmas.Bool.{cond_both, cond-true, cond-false, both_ways, eq-eqb, ne_eqb}
 use Rattle.lots.specs.declared.rows.LotRow.{LotRow}
-use Rattle.lots.specs.Orders.{Order, Keeps}
 use Rattle.matching.specs.declared.wanted.Draw.{Draw}
 use Rattle.matching.specs.Sums.{sum_of}
-use Rattle.matching.specs.Matching.{units_matching}
-use Rattle.matching.specs.Drawing.{gives, lots_left, draws_in_order}
-use Rattle.matching.specs.Drawn.{SerialsRise, Member, FromMatch, InOrder, units_drawn, Drawn, OneAnswer}
-use Rattle.matching.proofs.Drawing.{all_member, all_from_member, insert, sorted, Ordered, ordered_sorted, closed_form_is_drawn}
+use Rattle.matching.specs.Drawing.{lots_left}
+use Rattle.matching.specs.Drawn.{Member, FromMatch, InOrder, units_drawn, Drawn, OneAnswer}
+use Rattle.matching.proofs.Drawing.{all_member, all_from_member, insert, sorted, Ordered, ordered_sorted}
 
 member_inserted : (lt : LotRow → LotRow → Bool) (r x : LotRow) (xs : List LotRow) → (r ≡ x) ⊎ Member xs x → Member (insert lt r xs) x
 member_inserted lt r x [] m = m
@@ -154,10 +152,3 @@ one_answer o keeps M u old new_one new_two one two ri D E =
     let by = λ (new : List LotRow) (ds : List Draw) (F : Drawn M lt u old new ds). fits_in_turn lt (keeps.irreflexive u) (keeps.transitive u) (sorted M lt old) u ds ordered (drawn_fits lt (keeps.irreflexive u) (keeps.transitive u) M u old new ds F) in
     let same : one ≡ two = by new_one one D ∙ sym (by new_two two E) in
     (same, D.nothing_else ∙ ap (λ (ds : List Draw). lots_left (units_drawn ds) old) same ∙ sym E.nothing_else)
-
--- what satisfies the relation is the closed form
-pub drawn_is_closed_form : (o : Order) → Keeps o → (M : LotRow → Bool) (u : ℕ) (old new : List LotRow) (ds : List Draw) → SerialsRise old → AllByRecursion (λ r. 1 ≤ r.units) old → u ≤ units_matching M old → Drawn M (o.before u) u old new ds
-    → (ds ≡ draws_in_order (o.before u) (gives M (o.before u) u old) old) × (new ≡ lots_left (gives M (o.before u) u old) old)
-drawn_is_closed_form o keeps M u old new ds ri some enough D =
-    one_answer o keeps M u old new (lots_left (gives M (o.before u) u old) old) ds (draws_in_order (o.before u) (gives M (o.before u) u old) old) ri D
-    (closed_form_is_drawn M (o.before u) (keeps.irreflexive u) (keeps.transitive u) (keeps.exactly_one u) u old ri some enough)

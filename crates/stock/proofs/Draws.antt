@@ -98,14 +98,6 @@ module _ (o : Order) (keeps : Keeps o) (M : LotRow → Bool) (u : ℕ) (old now 
       subst (λ (q : Draw × Table). UnderWay M lt u old q.1.lots (ds ++ q.0 ∷ []) (left - q.0.units)) (sym p) (whole l))
       (cases_lt left x.units)
 
-  -- something is drawn
-  pub taken_some : (d : Draw) (after : Table) → (d, after) ≡ taken_at i left (record { lots = now; next = next }) → 1 ≤ d.units
-  taken_some d after is =
-      let h = units_x in
-      subst (λ (n : ℕ). 1 ≤ n) (sym (ap (λ (q : Draw × Table). q.0.units) is))
-      (by_bool (leb x.units left) (λ (b : Bool). 1 ≤ (cond {A = Draw × Table} b (record { lot = x; units = x.units }, record { lots = remove now i; next = next }) (record { lot = x; units = left }, record { lots = set now i (with_fewer x left); next = next })).0.units)
-      (λ _. h) (λ _. some))
-
 -- a draw opens no lot
 pub taken_next : (i n : ℕ) (t : Table) (d : Draw) (after : Table) → (d, after) ≡ taken_at i n t → after.next ≡ t.next
 taken_next i n t d after is =

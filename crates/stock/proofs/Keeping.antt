@@ -1,37 +1,23 @@
 -- What keeps so what always holds of the open lots.
-use Rattle.std.proofs.Common.{◌≡◌, ℕ, suc, ◌+◌, ◌<◌, ◌≤◌, true, false, ◌&&◌, eqb, ltb, leb, List, [], ◌∷◌, ◌++◌, length, get_or, take, drop, set, Some, None, sym, refl, ap, ◌∙◌, subst, ⊎_elim, arith}
+use Rattle.std.proofs.Common.{◌≡◌, ℕ, suc, ◌+◌, ◌<◌, ◌≤◌, true, ◌&&◌, leb, List, [], ◌∷◌, ◌++◌, length, get_or, take, drop, set, Some, sym, ap, ◌∙◌, subst, arith}
 use Rattle.std.specs.List.{remove, AllByRecursion}
 use Rattle.std.proofs.ByRecursion.{All-weaker, All-push}
-use Rattle.std.proofs.lemmas.Bool.{and_parts, and_from, leb-true, eqb-true, eq-eqb, cases_Bool, cond-true, cond-false, leb-false}
+use Rattle.std.proofs.lemmas.Bool.{and_parts, leb-true}
+use Rattle.std.proofs.lemmas.Bool.Decides.{nat_tests}
 use Rattle.std.proofs.lemmas.List.{length_push}
 use Rattle.lots.specs.declared.rows.Key.{Key}
 use Rattle.lots.specs.declared.rows.LotRow.{LotRow}
-use Rattle.lots.specs.Rows.{most, in_range, same_cost, same_key, no_lot, with_units, with_fewer, with_more, grown, shrunk}
+use Rattle.lots.specs.Rows.{most, in_range, same_key, no_lot, with_units, with_fewer, with_more, grown, shrunk}
 use Rattle.matching.proofs.Splits.{split_at, set_at, length_split, all_here, all_without, all_replaced, pairs_without, pairs_replaced, pairs_push}
 use Rattle.stock.specs.Tables.{Table}
 use Rattle.stock.specs.Kept.{WellKept}
 
 -- keys
 pub key_same : (a b : Key) → same_key a b ≡ true → a ≡ b
-key_same a b e =
-    let p1 = and_parts (eqb a.account b.account) (eqb a.commodity b.commodity && (same_cost a.cost b.cost && eqb a.date b.date)) e in
-    let p2 = and_parts (eqb a.commodity b.commodity) (same_cost a.cost b.cost && eqb a.date b.date) p1.1 in
-    let p3 = and_parts (same_cost a.cost b.cost) (eqb a.date b.date) p2.1 in
-    let p4 = and_parts (eqb a.cost.number b.cost.number) (eqb a.cost.commodity b.cost.commodity) p3.0 in
-    let e1 = eqb-true a.account b.account p1.0 in
-    let e2 = eqb-true a.commodity b.commodity p2.0 in
-    let e3 = eqb-true a.cost.number b.cost.number p4.0 in
-    let e4 = eqb-true a.cost.commodity b.cost.commodity p4.1 in
-    let e5 = eqb-true a.date b.date p3.1 in
-    λ i. record { account = e1 i; commodity = e2 i; cost = record { number = e3 i; commodity = e4 i }; date = e5 i }
+key_same a b e = grind (arith, nat_tests)
 
 pub key_itself : (k : Key) → same_key k k ≡ true
-key_itself k =
-    and_from (eqb k.account k.account) (eqb k.commodity k.commodity && (same_cost k.cost k.cost && eqb k.date k.date)) (eq-eqb k.account k.account refl)
-    (and_from (eqb k.commodity k.commodity) (same_cost k.cost k.cost && eqb k.date k.date) (eq-eqb k.commodity k.commodity refl)
-    (and_from (same_cost k.cost k.cost) (eqb k.date k.date)
-    (and_from (eqb k.cost.number k.cost.number) (eqb k.cost.commodity k.cost.commodity) (eq-eqb k.cost.number k.cost.number refl) (eq-eqb k.cost.commodity k.cost.commodity refl))
-    (eq-eqb k.date k.date refl)))
+key_itself k = grind (arith, nat_tests)
 
 -- each lot has some units
 pub some_units : (lots : List LotRow) → AllByRecursion (λ r. in_range r ≡ true) lots → AllByRecursion (λ r. 1 ≤ r.units) lots
@@ -90,22 +76,7 @@ kept_removed t i h w =
 
 -- what a lot that has grown or shrunk is
 pub grown_some : (r y : LotRow) (n : ℕ) → Some y ≡ grown r n → y ≡ with_more r n
-grown_some r y n e =
-    ⊎_elim
-    (λ (t : ltb most (r.units + n) ≡ true). let f = e ∙ cond-true (ltb most (r.units + n)) None (Some (with_more r n)) t in let z : ◌≡◌ {A = ℕ} 0 1 = cc in absurd (omega arith))
-    (λ (t : ltb most (r.units + n) ≡ false). let f = e ∙ cond-false (ltb most (r.units + n)) None (Some (with_more r n)) t in cc)
-    (cases_Bool (ltb most (r.units + n)))
+grown_some r y n e = grind (arith, nat_tests)
 
 pub shrunk_some : (r y : LotRow) (n : ℕ) → Some y ≡ shrunk r n → (y ≡ with_fewer r n) × (n < r.units)
-shrunk_some r y n e =
-    ⊎_elim
-    (λ (t : leb r.units n ≡ true). let f = e ∙ cond-true (leb r.units n) None (Some (with_fewer r n)) t in let z : ◌≡◌ {A = ℕ} 0 1 = cc in absurd (omega arith))
-    (λ (t : leb r.units n ≡ false). let f = e ∙ cond-false (leb r.units n) None (Some (with_fewer r n)) t in (cc, leb-false r.units n t))
-    (cases_Bool (leb r.units n))
-
-pub shrunk_none : (r : LotRow) (n : ℕ) → None ≡ shrunk r n → r.units ≤ n
-shrunk_none r n e =
-    ⊎_elim
-    (λ (t : leb r.units n ≡ true). leb-true r.units n t)
-    (λ (t : leb r.units n ≡ false). let f = e ∙ cond-false (leb r.units n) None (Some (with_fewer r n)) t in let z : ◌≡◌ {A = ℕ} 0 1 = cc in absurd (omega arith))
-    (cases_Bool (leb r.units n))
+shrunk_some r y n e = (grind (arith, nat_tests), grind (arith, nat_tests))
