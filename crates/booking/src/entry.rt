@@ -41,7 +41,7 @@ pub struct Entry {
 }
 
 // What all rows of one transaction share: its number, its date and its flag.
-#[derive(Clone, Copy)]
+#[derive(Clone, Copy, PartialEq, Eq, Debug)]
 pub struct Transaction {
     pub number: u32,
     pub date: u32,

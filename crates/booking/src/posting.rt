@@ -2,7 +2,7 @@
 use lots::rows::Cost;
 
 // What a posting asks for. Amounts and units are hundredths; the braces give a cost, a lot date, both or nothing.
-#[derive(Clone, Copy)]
+#[derive(Clone, Copy, PartialEq, Eq, Debug)]
 pub enum PostingKind {
     // An amount that is found when the draft is settled.
     Blank,
@@ -26,7 +26,7 @@ pub enum PostingKind {
 }
 
 // A posting with its source number and the number of its account, from 1.
-#[derive(Clone, Copy)]
+#[derive(Clone, Copy, PartialEq, Eq, Debug)]
 pub struct Posting {
     pub line: u32,
     pub account: u16,

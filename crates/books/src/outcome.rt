@@ -1,7 +1,7 @@
 // What calls and questions answer.
 use refusal::Fault;
 
-#[derive(Clone, Copy)]
+#[derive(Clone, Copy, PartialEq, Eq, Debug)]
 pub enum Outcome {
     // The number of the commodity, and of the account, from 1.
     Declared(u8),
@@ -16,7 +16,7 @@ pub enum Outcome {
 }
 
 // How many there are, and the serial of the lot that is opened next.
-#[derive(Clone, Copy)]
+#[derive(Clone, Copy, PartialEq, Eq, Debug)]
 pub struct Counts {
     pub commodities: usize,
     pub accounts: usize,

@@ -25,7 +25,7 @@ impl<T, const N: usize> Model for Bounded<T, N> {
 }
 
 // A push found no room.
-#[derive(Clone, Copy)]
+#[derive(Clone, Copy, PartialEq, Eq, Debug)]
 pub struct Full;
 
 // Every call is total: one that finds no room or no place says so, or does nothing.

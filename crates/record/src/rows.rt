@@ -23,7 +23,7 @@ pub enum RowKind {
 }
 
 // Units and cost are in hundredths, dates are their numbers.
-#[derive(Clone, Copy)]
+#[derive(Clone, Copy, PartialEq, Eq, Debug)]
 pub struct Row {
     pub line: u32,
     pub transaction: u32,
