@@ -47,6 +47,7 @@ pub(crate) fn weight_sum(entries: &[Entry], commodity: u8) -> i128
     ensures { result ≡ weight_sum entries.now commodity }
 {
     let mut sum = 0;
+    // no `sum`: it would owe that each sum on the way fits, which hangs on how many entries there are
     for entry in entries {
         sum += kind_weight(&entry.kind, commodity);
     }

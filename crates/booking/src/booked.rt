@@ -36,6 +36,7 @@ impl Model for Booked {
     ghost view = { λ b. (b.lots, b.entries) };
 }
 
+// What is asked of each posting is no invariant: it holds only while postings are left to book.
 impl Booked {
     // One entry more.
     fn enter(&mut self, line: u32, kind: EntryKind)

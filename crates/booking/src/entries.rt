@@ -33,6 +33,7 @@ impl Ranged for Entry {
 pub fn blank_account(entries: &[Entry]) -> Option<u16>
     ensures { result ≡ blank_account entries.now }
 {
+    // no `find_map`: tried, and of what it finds no proof closed
     for entry in entries {
         if let EntryKind::Unfilled { account } = entry.kind {
             return Some(account);

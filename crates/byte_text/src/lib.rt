@@ -69,7 +69,7 @@ pub fn all_of(class: ByteClass, text: &[u8]) -> bool
     text.iter().all(|b| class.has(*b))
 }
 
-// Whether two texts are equal.
+// Whether two texts are equal: `==`, under the name that contracts above cite.
 pub fn same(text: &[u8], word: &[u8]) -> bool
     ensures { result ≡ bytes_eq text.now word.now }
 {

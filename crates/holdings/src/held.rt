@@ -2,6 +2,7 @@
 ghost use Rattle.std.specs.Prelude.{◌≡◌, ◌≤◌, pos, None, length, if◌then◌else◌, unsigned_abs};
 ghost use Rattle.matching.specs.Matching.{matches, units_matching};
 ghost use Rattle.values.specs.Names.{lies_under};
+ghost use Rattle.booking.specs.Balances.{largest_balance};
 ghost use Rattle.booking.specs.Postings.{wanted_lots};
 ghost use Rattle.booking.specs.Weighing.{is_zero};
 ghost use Rattle.books.specs.Holdings.{units_in_lots, plain_balance, holding, holdings_under, no_plain_balance, has_lot, is_empty_account};
@@ -73,7 +74,8 @@ impl Holdings {
 
     // An account's plain balance.
     pub fn plain_balance(&self, account: u16, commodity: u8) -> i64
-        ensures { result ≡ plain_balance self.now account commodity }
+        ensures value { result ≡ plain_balance self.now account commodity }
+        ensures small { unsigned_abs result ≤ largest_balance }
     {
         self.balances.balance(account, commodity)
     }
@@ -83,7 +85,7 @@ impl Holdings {
         ensures value { result ≡ holding self.now account commodity }
         ensures small { unsigned_abs result ≤ largest_holding }
     {
-        self.balances.balance(account, commodity) + self.units_in_lots(account, commodity)
+        self.plain_balance(account, commodity) + self.units_in_lots(account, commodity)
     }
 
     // Whether an open lot is the account's.
@@ -106,6 +108,7 @@ impl Holdings {
     fn no_plain_balance(&self, account: u16) -> bool
         ensures { result ≡ no_plain_balance self.now account 16 }
     {
+        // no `all`: the definition goes from the last commodity down
         for commodity in 1..=MOST_COMMODITIES {
             if !self.is_zero(account, commodity) {
                 return false;
@@ -139,6 +142,7 @@ impl Holdings {
         ensures { result ≡ holdings_under self.now name.now commodity 1 accounts.now }
     {
         let mut sum = 0;
+        // no `sum`: it would owe that each sum on the way fits, which hangs on how many accounts there are
         for (i, account) in accounts.iter().enumerate() {
             sum += self.holding_if_under(account, i as u16 + 1, name, commodity);
         }

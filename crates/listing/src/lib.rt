@@ -3,7 +3,6 @@
 
 use fields::field::Field;
 use lines::directive::{Braces, Cost, Directive, Method, Posting, Units};
-use refusal::Fault;
 use std::fmt;
 use values::amount::Amount;
 use values::date::Date;
@@ -181,20 +180,5 @@ impl fmt::Display for Listed<Directive<'_>> {
             ),
             Directive::Posting(posting) => write!(f, "{}", Listed(posting)),
         }
-    }
-}
-
-// A refusal as it is reported.
-impl fmt::Display for Listed<Fault> {
-    fn fmt<W: fmt::Write>(&self, f: &mut fmt::Formatter<W>) -> fmt::Result {
-        let fault = self.0;
-        write!(
-            f,
-            "refused {} line {} place {} layer {}",
-            fault.refusal.number(),
-            fault.line,
-            fault.place,
-            fault.refusal.layer().name()
-        )
     }
 }

@@ -63,7 +63,7 @@ impl Account {
 
     fn list_refusal(&mut self, out: &mut String, fault: Fault) -> anyhow::Result<()> {
         one_more(&mut self.refused, fault.refusal.number())?;
-        writeln!(out, "{}", Listed(fault))?;
+        writeln!(out, "{fault}")?;
         Ok(())
     }
 

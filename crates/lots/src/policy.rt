@@ -28,6 +28,7 @@ pub trait Policy: Named {
     fn name(&self) -> &str
         ensures { result.now ≡ (order self.now).name };
 
+    // The number that stands for it in the header of a record. It is no enum: hosts have policies of their own.
     fn code(&self) -> u16
         ensures { result ≡ (order self.now).code };
 

@@ -31,7 +31,7 @@ fn outcome(heap: Global, line: &[u8], number: u32) -> anyhow::Result<String> {
     let text = match read_line(line, number) {
         Ok(None) => format!(in heap; "blank")?,
         Ok(Some(directive)) => format!(in heap; "{}", Listed(directive))?,
-        Err(fault) => format!(in heap; "{}", Listed(fault))?,
+        Err(fault) => format!(in heap; "{fault}")?,
     };
     Ok(text)
 }

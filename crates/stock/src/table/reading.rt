@@ -20,7 +20,7 @@ impl LotTable {
         }
     }
 
-    // A second table with the same lots.
+    // A second table with the same lots. It is no `Clone`: that may fail for want of memory, and this cannot.
     pub fn duplicate(&self) -> LotTable
         ensures { result ≡ self.now }
     {

@@ -62,6 +62,7 @@ impl LotTable {
     {
         let mut draws = Bounded::new(Draw::default());
         let mut left = asked.units;
+        // no chain: its end is what is drawn, and not a list's
         while left > 0 {
             let Some(place) = asked.earliest(self.lots()) else {
                 unreachable!()
