@@ -56,7 +56,7 @@ impl Balances {
         ensures { result ≡ settled_balances self.now entries.now }
     {
         let mut places = self.places;
-        add_entries(&mut places, entries.as_slice());
+        add_entries(&mut places, entries);
         if !all_within(&places) {
             return Err(Refusal::BalanceTooLarge);
         }

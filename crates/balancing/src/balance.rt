@@ -57,7 +57,7 @@ pub fn balance(postings: &[Posting], entries: &mut Entries, own: Option<u8>) -> 
     if postings.is_empty() {
         return Err(Refusal::NotBalanced);
     }
-    let unbalanced = unbalanced_in(entries.as_slice());
+    let unbalanced = unbalanced_in(entries);
     if has_blank(entries.as_slice()) {
         return fill(entries, own, unbalanced);
     }

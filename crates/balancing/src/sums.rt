@@ -4,7 +4,8 @@ ghost use Rattle.booking.specs.Weighing.{kind_weight, weight_sum};
 ghost use Rattle.weights.specs.Weights.{weight_in};
 ghost use Rattle.balancing.specs.Bounds.{Within};
 
-use booking::entry::{Entry, EntryKind};
+use booking::entries::Entries;
+use booking::entry::EntryKind;
 use weights::{Weight, draw_weight, plain_weight, weight_of_key};
 
 // What a weight says in a commodity.
@@ -42,13 +43,12 @@ fn kind_weight(kind: &EntryKind, commodity: u8) -> i128
 }
 
 // What entries weigh together in a commodity.
-pub(crate) fn weight_sum(entries: &[Entry], commodity: u8) -> i128
-    requires { length entries.now ≤ 288 }
+pub(crate) fn weight_sum(entries: &Entries, commodity: u8) -> i128
     ensures { result ≡ weight_sum entries.now commodity }
 {
     let mut sum = 0;
     // no `sum`: it would owe that each sum on the way fits, which hangs on how many entries there are
-    for entry in entries {
+    for entry in entries.as_slice() {
         sum += kind_weight(&entry.kind, commodity);
     }
     sum

@@ -4,7 +4,7 @@ ghost use Rattle.booking.specs.Weighing.{unbalanced_in, weight_sum};
 ghost use Rattle.balancing.specs.Summary.{summary, and_commodity};
 
 use crate::sums::weight_sum;
-use booking::entry::Entry;
+use booking::entries::Entries;
 
 // The most commodities; they are counted from 1.
 const COMMODITIES: u8 = 16;
@@ -32,8 +32,7 @@ impl Unbalanced {
     }
 }
 
-pub fn unbalanced_in(entries: &[Entry]) -> Unbalanced
-    requires { length entries.now ≤ 288 }
+pub fn unbalanced_in(entries: &Entries) -> Unbalanced
     ensures { result ≡ summary (weight_sum entries.now) (unbalanced_in entries.now) }
 {
     let mut found = Unbalanced::Nothing;

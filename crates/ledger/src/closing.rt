@@ -26,7 +26,7 @@ use refusal::{Fault, Refusal};
 fn differs(total: i64, amount: i32) -> bool
     ensures { result ≡ not (is_zero (total -ℤ amount)) }
 {
-    i128::from(total) - i128::from(amount) != 0
+    total != i64::from(amount)
 }
 
 impl<P: Policy> Ledger<P> {

@@ -76,6 +76,7 @@ impl<P: Policy> Ledger<P> {
     fn own_commodity(&self, own: Option<&[u8]>) -> Result<Option<u8>, Refusal>
         ensures { Finds CommodityNotDeclared (given_and (not_declared self.now.state.names) (option_map (λ c. c.now) own.entry)) (option_map (λ c. number_or_0 (commodity_number self.now.state.names c.now)) own.entry) result }
     {
+        // no `map` and `transpose`: tried, and the proof did not close
         let Some(name) = own else {
             return Ok(None);
         };

@@ -1,7 +1,8 @@
 // What can be asked of a ledger. Questions change nothing and never show a draft.
 ghost use Rattle.std.specs.Prelude.{◌≡◌, not};
 ghost use Rattle.books.specs.Conditions.{nothing_there};
-ghost use Rattle.books.specs.Questions.{holding_of, plain_balance_of, counts_of, lot_of};
+ghost use Rattle.books.specs.Refusals.{first_fault_met};
+ghost use Rattle.books.specs.Questions.{answer_unless, question_tests, holding_of, plain_balance_of, counts_of, lot_of};
 
 use crate::Ledger;
 use crate::fault::fault_at;
@@ -19,22 +20,28 @@ impl<P: Policy> Ledger<P> {
         opened && 1 <= commodity && commodity as usize <= self.chart.commodities()
     }
 
+    fn check_there(&self, account: u16, commodity: u8) -> Result<(), Fault>
+        ensures { result ≡ answer_unless (first_fault_met (question_tests self.now.state account commodity)) tt }
+    {
+        if self.has(account, commodity) {
+            Ok(())
+        } else {
+            Err(fault_at(0, Refusal::NothingThere))
+        }
+    }
+
     // The plain balance and the units of the open lots.
     pub(crate) fn holding(&self, account: u16, commodity: u8) -> Result<i64, Fault>
         ensures { result ≡ holding_of self.now.state account commodity }
     {
-        if !self.has(account, commodity) {
-            return Err(fault_at(0, Refusal::NothingThere));
-        }
+        self.check_there(account, commodity)?;
         Ok(self.holdings.holding(account, commodity))
     }
 
     pub(crate) fn plain_balance(&self, account: u16, commodity: u8) -> Result<i64, Fault>
         ensures { result ≡ plain_balance_of self.now.state account commodity }
     {
-        if !self.has(account, commodity) {
-            return Err(fault_at(0, Refusal::NothingThere));
-        }
+        self.check_there(account, commodity)?;
         Ok(self.holdings.plain_balance(account, commodity))
     }
 

@@ -4,7 +4,8 @@ ghost use Rattle.booking.specs.Balances.{balance_place, add_amount, add_kind, ba
 ghost use Rattle.balances.specs.Bounds.{Near};
 
 use super::PLACES;
-use booking::entry::{Entry, EntryKind};
+use booking::entries::Entries;
+use booking::entry::EntryKind;
 
 const COMMODITIES: usize = 16;
 
@@ -53,12 +54,11 @@ fn add_kind(places: &mut [i64; PLACES], kind: &EntryKind)
 }
 
 // The balances after entries, one after another.
-pub(super) fn add_entries(places: &mut [i64; PLACES], entries: &[Entry])
-    requires few { length entries.now ≤ 288 }
-    requires near { Near places.old 0 }
+pub(super) fn add_entries(places: &mut [i64; PLACES], entries: &Entries)
+    requires { Near places.old 0 }
     ensures { places.new ≡ balances_after places.old entries.now }
 {
-    for entry in entries {
+    for entry in entries.as_slice() {
         add_kind(places, &entry.kind);
     }
 }

@@ -1,5 +1,4 @@
-use Rattle.std.proofs.Common.{◌≡◌, true, false, List, sym, ap, ◌∙◌}
-use Rattle.booking.specs.declared.entry.Entry.{Entry}
+use Rattle.std.proofs.Common.{◌≡◌, true, false, sym, ap, ◌∙◌}
 use Rattle.booking.specs.Weighing.{has_blank, is_empty, weight_sum, unbalanced_in}
 use Rattle.stock.specs.Promises.{map_ok}
 use Rattle.balancing.specs.Summary.{summary, balanced}
@@ -14,7 +13,7 @@ returns-then-has_blank c =
     let fs = c.fill.new.entries in
     let u = c.unbalanced_in-unbalanced.result in
     let some : is_empty ps ≡ false = sym (c.if-is_empty.ensures ∙ empty_is ps) in
-    let found : u ≡ summary (weight_sum es) (unbalanced_in es) = c.unbalanced_in-unbalanced.ensures ∙ ap (λ (xs : List Entry). summary (weight_sum xs) (unbalanced_in xs)) c.as_slice.ensures.listed in
-    let blank : has_blank es ≡ true = sym (c.if-has_blank.ensures ∙ ap has_blank c.as_slice-2.ensures.listed) in
+    let found : u ≡ summary (weight_sum es) (unbalanced_in es) = c.unbalanced_in-unbalanced.ensures in
+    let blank : has_blank es ≡ true = sym (c.if-has_blank.ensures ∙ ap has_blank c.as_slice.ensures.listed) in
     let d : map_ok (λ (_ : Unit {0}). fs) c.fill.result ≡ balanced ps own es = c.fill.ensures.defined ∙ blank_there ps own es some u found blank in
     record { defined = d; entries = entries_are ps own es fs c.fill.result d c.fill.ensures.refused }
