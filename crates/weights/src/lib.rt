@@ -20,8 +20,7 @@ fn at_cost(units: u32, cost: u32) -> i128
     ensures exact { result ≡ pos (units * cost) }
     ensures size { nat_abs result ≤ largest_weight }
 {
-    let product = units as u64 * cost as u64;
-    product as i128
+    i128::from(u64::from(units) * u64::from(cost))
 }
 
 // A plain amount weighs its own hundredths, in its commodity.
@@ -30,31 +29,7 @@ pub fn plain_weight(amount: i32, commodity: u8) -> Weight
 {
     Weight {
         commodity,
-        amount: amount as i128 * 100,
-    }
-}
-
-// A purchase weighs units times cost, in the cost commodity.
-pub fn purchase_weight(bought: &Lot) -> Weight
-    ensures { result ≡ purchase_weight bought.now.key bought.now.units }
-{
-    let row = bought.row();
-    let cost = row.key.cost;
-    Weight {
-        commodity: cost.commodity,
-        amount: at_cost(row.units, cost.number),
-    }
-}
-
-// A draw weighs units drawn times cost, below zero, in the cost commodity.
-pub fn draw_weight(draw: &Draw) -> Weight
-    ensures weighed { result ≡ draw_weight draw.now }
-    ensures size { nat_abs result.amount ≤ largest_weight }
-{
-    let cost = draw.lot.key.cost;
-    Weight {
-        commodity: cost.commodity,
-        amount: -at_cost(draw.units, cost.number),
+        amount: i128::from(amount) * 100,
     }
 }
 
@@ -66,5 +41,24 @@ pub fn weight_of_key(key: &Key, units: u32) -> Weight
     Weight {
         commodity: key.cost.commodity,
         amount: at_cost(units, key.cost.number),
+    }
+}
+
+// A purchase weighs its units, and a draw weighs them below zero.
+pub fn purchase_weight(bought: &Lot) -> Weight
+    ensures { result ≡ purchase_weight bought.now.key bought.now.units }
+{
+    let row = bought.row();
+    weight_of_key(&row.key, row.units)
+}
+
+pub fn draw_weight(draw: &Draw) -> Weight
+    ensures weighed { result ≡ draw_weight draw.now }
+    ensures size { nat_abs result.amount ≤ largest_weight }
+{
+    let weight = weight_of_key(&draw.lot.key, draw.units);
+    Weight {
+        amount: -weight.amount,
+        ..weight
     }
 }
