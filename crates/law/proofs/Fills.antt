@@ -1,9 +1,8 @@
 -- A filled blank makes the weights sum to 0, and changes nothing else.
-use Rattle.std.proofs.Common.{◌≡◌, ℕ, zero, suc, ◌%◌, ◌≤◌, Bool, true, false, cond, not, ◌&&◌, eqb, ◌⊎◌, List, [], ◌∷◌, length, ℤ, pos, negsuc, ◌+ℤ◌, ◌*ℤ◌, Option, sym, refl, ap, ◌∙◌, subst, inl, inr, ⊎_elim, arith}
-use native.Mathlib.Nat.{div-add-mod}
+use Rattle.std.proofs.Common.{◌≡◌, ℕ, zero, suc, ◌≤◌, Bool, true, false, cond, not, ◌&&◌, eqb, ◌⊎◌, List, [], ◌∷◌, ℤ, pos, ◌+ℤ◌, ◌*ℤ◌, Option, sym, refl, ap, ◌∙◌, subst, inl, inr, ⊎_elim, arith}
 use Rattle.std.specs.List.{AllByRecursion}
 use Rattle.std.proofs.lemmas.Int.{ints}
-use Rattle.std.proofs.lemmas.Bool.{false≢true, and_parts, cond-true, cond-false, cond_both, cases_eq, cases_Bool, eq-eqb, eqb-true, ne_eqb, both_ways, not-false}
+use Rattle.std.proofs.lemmas.Bool.{false≢true, and_parts, cond-true, cond-false, cond_both, cases_eq, cases_Bool, eq-eqb, ne_eqb, both_ways, not-false}
 use Rattle.matching.specs.Sums.{sum_of, sum_of_ints}
 use Rattle.matching.specs.Drawn.{Member}
 use Rattle.matching.proofs.Sums.{by_bool}
@@ -11,17 +10,13 @@ use Rattle.booking.specs.declared.entry.Entry.{Entry}
 use Rattle.booking.specs.declared.entry.EntryKind.{EntryKind}
 use Rattle.booking.specs.declared.entry.EntryKind.TheVariants.{Unfilled, Filled}
 use Rattle.booking.specs.Weighing.{weight_sum, is_zero, unbalanced, unbalanced_in, is_empty, is_unfilled, has_blank, filled_with, fill, blank_amount, is_whole, is_amount, own_agrees, can_fill, filled_by, complete}
+use Rattle.booking.proofs.Filling.{blank_balances}
 use Rattle.law.proofs.Stocks.{lots_weight, lots_weight_sum}
 use Rattle.law.proofs.Plains.{KindThere, EntryThere, in_commodity}
 
 pub zero_is : (z : ℤ) → is_zero z ≡ true → z ≡ pos 0
 zero_is (pos zero) e = refl
 zero_is _ e = absurd (false≢true e)
-
--- a whole sum and what a blank becomes for it come to 0
-whole_blank : (z : ℤ) → is_whole z ≡ true → z +ℤ blank_amount z *ℤ pos 100 ≡ pos 0
-whole_blank (pos n) e = let r = eqb-true (n % 100) 0 e in let d = div-add-mod n 100 in omega (arith, ints)
-whole_blank (negsuc n) e = let r = eqb-true (suc n % 100) 0 e in let d = div-add-mod (suc n) 100 in omega (arith, ints)
 
 -- Filling, entry by entry. A fact of each kind that holds of a filled blank as of the blank carries over.
 
@@ -57,12 +52,6 @@ module _ (z : ℤ) (c : ℕ) where
       kinds : (kind : EntryKind) → P kind → P (filled_with z c kind)
       kinds (Unfilled account) p = fills account p
       kinds _ p = p
-
-  pub fill_length : (es : List Entry) → length (fill z c es) ≡ length es
-  fill_length [] = refl
-  fill_length (e ∷ es) =
-      let ih = fill_length es in
-      grind arith
 
   -- the first blank weighs what it is filled with
   fill_weight : (d : ℕ) (es : List Entry) → weight_sum (fill z c es) d ≡ weight_sum es d +ℤ cond (has_blank es) (in_commodity d c (z *ℤ pos 100)) (pos 0)
@@ -108,7 +97,7 @@ module _ (own : Option ℕ) (es : List Entry) where
       (λ (hb : has_blank es ≡ true).
       let z = blank_amount (weight_sum es d) in
       let fits : can_fill own (weight_sum es) (d ∷ []) ≡ true = not-false (can_fill own (weight_sum es) (d ∷ [])) (subst (λ (b : Bool). (b && not (can_fill own (weight_sum es) (d ∷ []))) ≡ false) hb t26) in
-      let whole = whole_blank (weight_sum es d) (and_parts (is_whole (weight_sum es d)) (is_amount z && own_agrees own d) fits).0 in
+      let whole = blank_balances (weight_sum es d) (and_parts (is_whole (weight_sum es d)) (is_amount z && own_agrees own d) fits).0 in
       let w = fill_weight z d c es in
       let on = cond-true (has_blank es) (in_commodity c d (z *ℤ pos 100)) (pos 0) hb in
       ⊎_elim
@@ -158,6 +147,3 @@ complete_there es all =
 
 pub complete_all : (P : EntryKind → Type 0) → ((z : ℤ) (c a : ℕ) → P (Unfilled a) → P (Filled a z c)) → (es : List Entry) → AllByRecursion (λ e. P e.kind) es → AllByRecursion (λ e. P e.kind) (complete es)
 complete_all P fills es all = complete_keeps (λ xs. AllByRecursion (λ e. P e.kind) xs) es all (λ z c _ _. fill_all z c P (fills z c) es all)
-
-pub complete_length : (es : List Entry) → length (complete es) ≡ length es
-complete_length es = complete_keeps (λ xs. length xs ≡ length es) es refl (λ z c _ _. fill_length z c es)

@@ -26,7 +26,7 @@ use Rattle.books.proofs.Nested.{draft_first}
 use Rattle.law.specs.Histories.{Settlement, History, accepted, with_settlement, after_accepted, after_call, history_after, all_entries, all_rows}
 use Rattle.law.specs.Records.{writes, any_wrote, header_of_history, recorded, LentWithin, lend_within, RecordStands}
 use Rattle.law.proofs.Sums.{joined_push}
-use Rattle.law.proofs.Fills.{complete_length}
+use Rattle.booking.proofs.Filling.{length_complete}
 use Rattle.std.proofs.Math.Bool.{or_assoc}
 use Rattle.law.proofs.Tests.{none_met, no_line, both_none, unrefused}
 use Rattle.law.proofs.Runs.{Good, history, reply_accepted, answered_kept, empty_good}
@@ -50,7 +50,7 @@ room_for_draft o s lent d e =
     let parts = both_none (first_fault o d.date s.books.table d.postings) (at_line d.line (first_met whole)) (sym (draft_first o s lent d) ∙ e) in
     let unmet = none_met whole (no_line d.line (first_met whole) parts.1) in
     let room = leb-true (first_free (s.rows + length booked)) lent (not-false (leb (first_free (s.rows + length booked)) lent) unmet.1.1.1.0) in
-    let same = complete_length booked in
+    let same = length_complete booked in
     omega arith
 
 module _ (o : Order) (start : List ℕ) where
