@@ -1,13 +1,11 @@
 -- The first blank by its place.
-use Rattle.std.proofs.Common.{◌≡◌, ℕ, suc, ◌+◌, ◌<◌, ◌≤◌, Bool, true, false, cond, not, ltb, List, [], ◌∷◌, length, get_or, set, ℤ, pos, Some, None, Option, sym, refl, ap, ◌∙◌, ⊎_elim, arith}
-use Rattle.std.proofs.lemmas.Bool.{cases_Bool, cond-true, cond-false, ltb-true, ltb-false}
+use Rattle.std.proofs.Common.{◌≡◌, ℕ, suc, ◌+◌, ◌<◌, ◌≤◌, Bool, cond, not, ltb, List, [], ◌∷◌, length, get_or, set, ℤ, pos, Some, None, Option, sym, refl, ap, ◌∙◌, arith}
+use Rattle.std.proofs.lemmas.Bool.Decides.{nat_tests}
 use Rattle.matching.proofs.Sums.{by_bool}
 use Rattle.booking.specs.declared.entry.Entry.{Entry}
-use Rattle.booking.specs.declared.entry.EntryKind.{EntryKind}
-use Rattle.booking.specs.declared.entry.EntryKind.TheVariants.{PlainAmount, Unfilled, Filled, Bought, Drew}
-use Rattle.booking.specs.Ranges.{entry_kind_in_range}
+use Rattle.booking.specs.declared.entry.EntryKind.TheVariants.{PlainAmount}
 use Rattle.std.specs.List.{position_or_len}
-use Rattle.booking.specs.Weighing.{is_unfilled, filled_with, fill, account_of_blank}
+use Rattle.booking.specs.Weighing.{is_unfilled, filled_with, fill}
 
 -- what is read past the end
 abbrev pub no_entry : Entry
@@ -42,29 +40,7 @@ fill_none z c (e ∷ es) h =
 
 -- what `position` answers of it
 pub place_found : (es : List Entry) (r : Option ℕ) (n : ℕ) → r ≡ cond (ltb (blank_place es) (length es)) (Some (blank_place es)) None → r ≡ Some n → (n ≡ blank_place es) × (blank_place es < length es)
-place_found es r n e is =
-    ⊎_elim
-    (λ (t : ltb (blank_place es) (length es) ≡ true). let f = sym is ∙ e ∙ cond-true _ (Some (blank_place es)) None t in (cc, ltb-true (blank_place es) (length es) t))
-    (λ (t : ltb (blank_place es) (length es) ≡ false). let f = sym is ∙ e ∙ cond-false _ (Some (blank_place es)) None t in let z : ◌≡◌ {A = ℕ} 0 1 = cc in absurd (omega arith))
-    (cases_Bool (ltb (blank_place es) (length es)))
+place_found es r n e is = (grind (arith, nat_tests), grind (arith, nat_tests))
 
 pub place_missing : (es : List Entry) (r : Option ℕ) → r ≡ cond (ltb (blank_place es) (length es)) (Some (blank_place es)) None → r ≡ None → length es ≤ blank_place es
-place_missing es r e is =
-    ⊎_elim
-    (λ (t : ltb (blank_place es) (length es) ≡ true). let f = sym is ∙ e ∙ cond-true _ (Some (blank_place es)) None t in let z : ◌≡◌ {A = ℕ} 0 1 = cc in absurd (omega arith))
-    (λ (t : ltb (blank_place es) (length es) ≡ false). ltb-false (blank_place es) (length es) t)
-    (cases_Bool (ltb (blank_place es) (length es)))
-
-pub filled_in_range : (z : ℤ) (c : ℕ) (k : EntryKind) → entry_kind_in_range k ≡ true → entry_kind_in_range (filled_with z c k) ≡ true
-filled_in_range z c (PlainAmount _ _ _) h = refl
-filled_in_range z c (Unfilled _) h = refl
-filled_in_range z c (Filled _ _ _) h = refl
-filled_in_range z c (Bought _ _ _) h = h
-filled_in_range z c (Drew _) h = h
-
-pub account_other : (k : EntryKind) (other : Option ℕ) → ((a : ℕ) → k ≡ Unfilled a → ⊥) → account_of_blank k other ≡ other
-account_other (PlainAmount _ _ _) other ne = refl
-account_other (Unfilled a) other ne = absurd (ne a refl)
-account_other (Filled _ _ _) other ne = refl
-account_other (Bought _ _ _) other ne = refl
-account_other (Drew _) other ne = refl
+place_missing es r e is = grind (arith, nat_tests)

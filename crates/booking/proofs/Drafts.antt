@@ -1,6 +1,6 @@
 -- One posting more of a draft.
-use Rattle.std.proofs.Common.{◌≡◌, ℕ, ◌+◌, ◌<◌, ◌≤◌, List, ◌++◌, length, get_or, drop, Some, None, Ok, Err, Option, Result, sym, ap, ◌∙◌, arith}
-use Rattle.std.proofs.lemmas.List.{append_assoc, append-nil, at_drop_more, at_drop_all}
+use Rattle.std.proofs.Common.{◌≡◌, ℕ, ◌+◌, ◌<◌, List, ◌++◌, length, get_or, drop, Some, None, Ok, Option, Result, sym, ap, ◌∙◌}
+use Rattle.std.proofs.lemmas.List.{append_assoc, at_drop_more}
 use Rattle.refusal.specs.declared.Refusal.{Refusal}
 use Rattle.refusal.specs.declared.Fault.{Fault}
 use Rattle.lots.specs.Orders.{Order}
@@ -30,12 +30,7 @@ module _ (o : Order) (day : ℕ) (b : Table × List Entry) where
         let same : c ≡ (t', b.1 ++ given) = cc in
         ap (λ (c : Table × List Entry). book_postings o day c ps) same
         ∙ ap (λ (es : List Entry). unless (first_fault o day t' ps) (table_after o day t' ps, es)) (append_assoc b.1 given (entries_of o day t' ps))
-    after_accepted (Some r) c e = let z : ◌≡◌ {A = ℕ} 0 1 = cc in absurd (omega arith)
-
-    after_refused : (q : Option Refusal) (f : Fault) → ◌≡◌ {A = Result (Table × List Entry) Fault} (Err f) (unless (at_line p.line q) (t', b.1 ++ given))
-        → ◌≡◌ {A = Result (Table × List Entry) Fault} (Err f) (unless (or_else (at_line p.line q) (first_fault o day t' ps)) (table_after o day t' ps, b.1 ++ (given ++ entries_of o day t' ps)))
-    after_refused None f e = let z : ◌≡◌ {A = ℕ} 0 1 = cc in absurd (omega arith)
-    after_refused (Some r) f e = e
+    after_accepted (Some r) c e = cc
 
   -- the posting at place i is booked, and what is left gives the rest
   module _ (ps : List Posting) (i : ℕ) (within : i < length ps) (all : Result (Table × List Entry) Fault) (was : book_postings o day b (drop i ps) ≡ all) where
@@ -43,13 +38,3 @@ module _ (o : Order) (day : ℕ) (b : Table × List Entry) where
     booked_more c e =
         after_accepted (get_or ps i no_posting) (drop (i + 1) ps) (posting_refusal o day b.0 (get_or ps i no_posting)) c e
         ∙ sym (at_drop_more (book_postings o day b) ps i no_posting within) ∙ was
-
-    pub booked_refused : (f : Fault) → Err f ≡ book_posting o day (get_or ps i no_posting) b → Err f ≡ all
-    booked_refused f e =
-        after_refused (get_or ps i no_posting) (drop (i + 1) ps) (posting_refusal o day b.0 (get_or ps i no_posting)) f e
-        ∙ sym (at_drop_more (book_postings o day b) ps i no_posting within) ∙ was
-
-  pub booked_all : (ps : List Posting) (i : ℕ) → length ps ≤ i → (all : Result (Table × List Entry) Fault) → book_postings o day b (drop i ps) ≡ all → Ok b ≡ all
-  booked_all ps i past all was =
-      ap (λ (es : List Entry). Ok (b.0, es)) (sym (append-nil b.1))
-      ∙ sym (at_drop_all (book_postings o day b) ps i past) ∙ was

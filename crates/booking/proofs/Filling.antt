@@ -1,15 +1,15 @@
 -- What filling the blank leaves of the entries, and that a whole amount balances the sum that it came from.
-use Rattle.std.proofs.Common.{◌≡◌, ℕ, suc, ◌%◌, true, List, [], ◌∷◌, length, ℤ, pos, negsuc, ◌+ℤ◌, ◌*ℤ◌, refl, ap, arith}
+use Rattle.std.proofs.Common.{◌≡◌, ℕ, suc, ◌%◌, true, List, [], ◌∷◌, length, ℤ, pos, negsuc, ◌+ℤ◌, ◌*ℤ◌, refl, arith}
 use Rattle.std.proofs.lemmas.Int.{ints}
-use Rattle.std.proofs.lemmas.Bool.{eqb-true, cond_both}
+use Rattle.std.proofs.lemmas.Bool.{eqb-true}
 use Rattle.booking.specs.declared.entry.Entry.{Entry}
-use Rattle.booking.specs.Weighing.{is_unfilled, fill, unbalanced_in, weight_sum, filled_by, complete, is_whole, blank_amount}
-use Rattle.booking.proofs.Blanks.{filled_entry}
+use Rattle.booking.specs.Weighing.{fill, unbalanced_in, weight_sum, filled_by, complete, is_whole, blank_amount}
 
 pub length_fill : (z : ℤ) (c : ℕ) (es : List Entry) → length (fill z c es) ≡ length es
 length_fill z c [] = refl
 length_fill z c (e ∷ es) =
-    cond_both (is_unfilled e.kind) (filled_entry z c e ∷ es) (e ∷ fill z c es) (λ ys. length ys ≡ length (e ∷ es)) (λ _. refl) (λ _. ap suc (length_fill z c es))
+    let ih = length_fill z c es in
+    grind arith
 
 length_filled : (us : List ℕ) (es : List Entry) → length (filled_by us es) ≡ length es
 length_filled [] es = refl

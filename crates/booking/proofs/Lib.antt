@@ -1,6 +1,5 @@
 pub mod Worked
 pub mod Passing
-pub mod Loops
 pub mod Blanks
 pub mod Room
 pub mod Stages

@@ -1,18 +1,19 @@
 -- A reduction empties each lot that it draws from but the last. So with its draws, entries and open lots together grow by at most 1.
-use Rattle.std.proofs.Common.{◌≡◌, ℕ, suc, ◌+◌, ◌-◌, ◌<◌, ◌≤◌, min, Bool, true, false, cond, not, ◌&&◌, eqb, leb, ◌⊎◌, List, [], ◌∷◌, length, refl, ap, ◌∙◌, inl, inr, ⊎_elim, arith}
+use Rattle.std.proofs.Common.{◌≡◌, ℕ, suc, ◌+◌, ◌-◌, ◌<◌, ◌≤◌, min, Bool, true, false, cond, not, eqb, leb, ◌⊎◌, List, [], ◌∷◌, length, refl, ap, ◌∙◌, inl, inr, ⊎_elim, arith}
 use Rattle.std.specs.List.{AllByRecursion, list_all}
 use Rattle.std.proofs.ByRecursion.{All-weaker}
-use Rattle.std.proofs.lemmas.Bool.{and_parts, leb-true, le-leb, eq-eqb, cond_both, cond-true, cond-false, cases_Bool, cases_eq}
+use Rattle.std.proofs.lemmas.Bool.Decides.{nat_tests}
+use Rattle.std.proofs.lemmas.Bool.{le-leb, cond-false, cases_Bool, cases_eq}
 use Rattle.lots.specs.declared.rows.LotRow.{LotRow}
 use Rattle.lots.specs.Orders.{Order, Keeps}
-use Rattle.lots.specs.Rows.{most, in_range, with_fewer}
+use Rattle.lots.specs.Rows.{most, in_range}
 use Rattle.matching.specs.declared.wanted.Wanted.{Wanted}
 use Rattle.matching.specs.declared.wanted.Draw.{Draw}
 use Rattle.matching.specs.Sums.{sum_of}
 use Rattle.matching.specs.Matching.{matches, units_matching}
 use Rattle.matching.specs.Drawing.{units_before, gives, lots_left, insert_draw, draws_in_order, draws_of, lots_after}
 use Rattle.matching.specs.Drawn.{Member, AllPairs, SerialsRise}
-use Rattle.matching.proofs.Sums.{by_bool, gives_most}
+use Rattle.matching.proofs.Sums.{gives_most}
 use Rattle.matching.proofs.Drawing.{all_draws, sum_of_zero_all, emptied}
 use Rattle.stock.specs.Tables.{Table}
 use Rattle.stock.specs.Kept.{WellKept}
@@ -24,7 +25,7 @@ length_insert : (lt : LotRow → LotRow → Bool) (d : Draw) (ds : List Draw) �
 length_insert lt d [] = refl
 length_insert lt d (e ∷ es) =
     let ih = length_insert lt d es in
-    cond_both (lt d.lot e.lot) (d ∷ e ∷ es) (e ∷ insert_draw lt d es) (λ ys. length ys ≡ suc (length (e ∷ es))) (λ _. refl) (λ _. ap suc ih)
+    grind arith
 
 module _ (lt : LotRow → LotRow → Bool) (f : LotRow → ℕ) where
   -- 1 for a lot that is drawn from and not emptied
@@ -32,15 +33,13 @@ module _ (lt : LotRow → LotRow → Bool) (f : LotRow → ℕ) where
   in_part r = cond (eqb (f r) 0) 0 (cond (leb r.units (f r)) 0 1)
 
   in_part_most : (r : LotRow) → in_part r ≤ 1
-  in_part_most r = cond_both (eqb (f r) 0) 0 (cond (leb r.units (f r)) 0 1) (λ n. n ≤ 1) (λ _. omega arith) (λ _. cond_both (leb r.units (f r)) 0 1 (λ n. n ≤ 1) (λ _. omega arith) (λ _. omega arith))
+  in_part_most r = grind arith
 
   not_drawn : (r : LotRow) → f r ≡ 0 → in_part r ≡ 0
-  not_drawn r e = cond-true (eqb (f r) 0) 0 (cond (leb r.units (f r)) 0 1) (eq-eqb (f r) 0 e)
+  not_drawn r e = grind (arith, nat_tests)
 
   all_drawn : (r : LotRow) → f r ≡ r.units → in_part r ≡ 0
-  all_drawn r e =
-      cond_both (eqb (f r) 0) 0 (cond (leb r.units (f r)) 0 1) (λ n. n ≡ 0) (λ _. refl)
-      (λ _. cond-true (leb r.units (f r)) 0 1 (le-leb r.units (f r) (omega arith)))
+  all_drawn r e = grind (arith, nat_tests)
 
   grows : (xs : List LotRow) → length (draws_in_order lt f xs) + length (lots_left f xs) ≤ length xs + sum_of in_part xs
   grows [] = omega arith
@@ -50,9 +49,7 @@ module _ (lt : LotRow → LotRow → Bool) (f : LotRow → ℕ) where
       let d : Draw = record { lot = r; units = f r } in
       let ih = grows rs in
       let more = length_insert lt d ds in
-      by_bool (eqb (f r) 0) (λ (b : Bool). length (cond b ds (insert_draw lt d ds)) + length (cond (leb r.units (f r)) left (with_fewer r (f r) ∷ left)) ≤ suc (length rs) + (cond b 0 (cond (leb r.units (f r)) 0 1) + sum_of in_part rs))
-      (λ _. by_bool (leb r.units (f r)) (λ (b : Bool). length ds + length (cond b left (with_fewer r (f r) ∷ left)) ≤ suc (length rs) + (0 + sum_of in_part rs)) (λ _. omega arith) (λ _. omega arith))
-      (λ _. by_bool (leb r.units (f r)) (λ (b : Bool). length (insert_draw lt d ds) + length (cond b left (with_fewer r (f r) ∷ left)) ≤ suc (length rs) + (cond b 0 1 + sum_of in_part rs)) (λ _. omega arith) (λ _. omega arith))
+      grind arith
 
   abbrev NotBoth : LotRow → LotRow → Type 0
   NotBoth r s = (in_part r ≡ 0) ⊎ (in_part s ≡ 0)
@@ -87,10 +84,8 @@ module _ (o : Order) (keeps : Keeps o) (w : Wanted) (u : ℕ) (t : Table) (kept 
       (all_draws (λ d. d.units ≤ most) lt f xs
       (All-weaker (λ r. in_range r ≡ true) (λ r. (f r ≡ 0 → ⊥) → f r ≤ most)
       (λ r e _.
-      let p = and_parts (leb 1 r.units) (leb r.units most && leb r.key.cost.number most) e in
-      let top = leb-true r.units most (and_parts (leb r.units most) (leb r.key.cost.number most) p.1).0 in
       let l = gives_most M lt u xs r in
-      omega arith)
+      grind (arith, nat_tests))
       xs kept.ranges))
 
   module _ (enough : u ≤ units_matching M xs) where

@@ -1,25 +1,20 @@
 -- Bytes of a record: a header, rows, and what stands behind them.
-use Rattle.std.proofs.Common.{◌≡◌, ℕ, ◌+◌, List, [], ◌∷◌, ◌++◌, length, take, drop, sym, refl, ap, ◌∙◌, zero-add, arith}
+use Rattle.std.proofs.Common.{◌≡◌, ℕ, ◌+◌, List, [], ◌++◌, length, take, drop, sym, ap, ◌∙◌, zero-add, arith}
 use Rattle.std.proofs.lemmas.List.{append_assoc, length-append, take_at, drop_at, drop-drop, take-append-drop}
 use Rattle.record.specs.declared.header.Header.{Header}
 use Rattle.record.specs.declared.rows.Row.{Row}
-use Rattle.record.specs.Layout.{header_length, first_free, row_bytes, rows_bytes, header_bytes, write_at, header_after, record_after}
-use Rattle.record.proofs.Written.{rows_bytes_length}
-
-pub rows_bytes_append : (xs ys : List Row) → rows_bytes (xs ++ ys) ≡ rows_bytes xs ++ rows_bytes ys
-rows_bytes_append [] ys = refl
-rows_bytes_append (x ∷ xs) ys = ap (λ bs. row_bytes x ++ bs) (rows_bytes_append xs ys) ∙ sym (append_assoc (row_bytes x) (rows_bytes xs) (rows_bytes ys))
+use Rattle.record.specs.Layout.{header_length, first_free, rows_bytes, header_bytes, write_at, header_after, record_after}
+use Rattle.record.proofs.Written.{rows_bytes_length, rows_bytes_append}
 
 -- bytes written behind a front
 write_behind : (front rest new : List ℕ) (n : ℕ) → length front ≡ n → write_at (front ++ rest) n new ≡ front ++ (new ++ drop (length new) rest)
 write_behind front rest new n size =
-    ap (λ xs. xs ++ (new ++ drop (n + length new) (front ++ rest))) (take_at front rest n size)
-    ∙ ap (λ xs. front ++ (new ++ xs)) (sym (drop-drop (length new) n (front ++ rest)) ∙ ap (drop (length new)) (drop_at front rest n size))
+    rw (take_at front rest n size, ← drop-drop (length new) n (front ++ rest), drop_at front rest n size)
 
 -- a header written over another
 write_over : (old new rest : List ℕ) → length old ≡ length new → write_at (old ++ rest) 0 new ≡ new ++ rest
 write_over old new rest size =
-    ap (λ xs. new ++ xs) (ap (λ n. drop n (old ++ rest)) (zero-add (length new)) ∙ drop_at old rest (length new) size)
+    rw (zero-add (length new), drop_at old rest (length new) size)
 
 -- the header alone
 pub headed_over : (old rest : List ℕ) (rows : ℕ) (h : Header) → length old ≡ header_length → header_after rows h (old ++ rest) ≡ header_bytes rows h ++ rest
@@ -36,13 +31,14 @@ recorded_behind old start rows new written h size counted =
     let front : length (old ++ rows_bytes rows) ≡ first_free written = length-append old (rows_bytes rows) ∙ omega arith in
     let more : drop (length (rows_bytes new)) behind ≡ drop (first_free (written + length new)) start =
     drop-drop (length (rows_bytes new)) (first_free written) start ∙ ap (λ n. drop n start) (ap (λ n. first_free written + n) (rows_bytes_length new) ∙ omega arith) in
-    ap (λ xs. header_after (written + length new) h (write_at xs (first_free written) (rows_bytes new))) (sym (append_assoc old (rows_bytes rows) behind))
-    ∙ ap (header_after (written + length new) h) (write_behind (old ++ rows_bytes rows) behind (rows_bytes new) (first_free written) front ∙ append_assoc old (rows_bytes rows) (rows_bytes new ++ drop (length (rows_bytes new)) behind))
-    ∙ headed_over old (rows_bytes rows ++ (rows_bytes new ++ drop (length (rows_bytes new)) behind)) (written + length new) h size
-    ∙ ap (λ xs. header_bytes (written + length new) h ++ xs)
-    (sym (append_assoc (rows_bytes rows) (rows_bytes new) (drop (length (rows_bytes new)) behind))
-    ∙ ap (λ xs. xs ++ drop (length (rows_bytes new)) behind) (sym (rows_bytes_append rows new))
-    ∙ ap (λ xs. rows_bytes (rows ++ new) ++ xs) more)
+    rw (
+      ← append_assoc old (rows_bytes rows) behind,
+      write_behind (old ++ rows_bytes rows) behind (rows_bytes new) (first_free written) front,
+      append_assoc old (rows_bytes rows) (rows_bytes new ++ drop (length (rows_bytes new)) behind),
+      headed_over old (rows_bytes rows ++ (rows_bytes new ++ drop (length (rows_bytes new)) behind)) (written + length new) h size,
+      more,
+      rows_bytes_append rows new,
+    ) (simp append_assoc)
 
 -- a record that was not written to, as a header's place and the rest
 pub untouched : (start : List ℕ) → start ≡ take header_length start ++ ([] ++ drop (first_free 0) start)

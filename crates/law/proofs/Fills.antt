@@ -1,28 +1,22 @@
 -- A filled blank makes the weights sum to 0, and changes nothing else.
-use Rattle.std.proofs.Common.{◌≡◌, ℕ, zero, suc, ◌+◌, ◌%◌, ◌<◌, ◌≤◌, Bool, true, false, cond, not, ◌&&◌, eqb, ◌⊎◌, List, [], ◌∷◌, length, ℤ, pos, negsuc, ◌+ℤ◌, ◌*ℤ◌, Option, sym, refl, ap, ◌∙◌, subst, inl, inr, ⊎_elim, arith}
-use native.Mathlib.Nat.{div-add-mod}
+use Rattle.std.proofs.Common.{◌≡◌, ℕ, zero, suc, ◌≤◌, Bool, true, false, cond, not, ◌&&◌, eqb, ◌⊎◌, List, [], ◌∷◌, ℤ, pos, ◌+ℤ◌, ◌*ℤ◌, Option, sym, refl, ap, ◌∙◌, subst, inl, inr, ⊎_elim, arith}
 use Rattle.std.specs.List.{AllByRecursion}
 use Rattle.std.proofs.lemmas.Int.{ints}
-use Rattle.std.proofs.lemmas.Bool.{and_parts, cond-true, cond-false, cond_both, cases_eq, cases_Bool, cases_order, eq-eqb, eqb-true, ne_eqb, both_ways, not-false}
+use Rattle.std.proofs.lemmas.Bool.{false≢true, and_parts, cond-true, cond-false, cond_both, cases_eq, cases_Bool, eq-eqb, ne_eqb, both_ways, not-false}
 use Rattle.matching.specs.Sums.{sum_of, sum_of_ints}
 use Rattle.matching.specs.Drawn.{Member}
 use Rattle.matching.proofs.Sums.{by_bool}
 use Rattle.booking.specs.declared.entry.Entry.{Entry}
 use Rattle.booking.specs.declared.entry.EntryKind.{EntryKind}
-use Rattle.booking.specs.declared.entry.EntryKind.TheVariants.{PlainAmount, Unfilled, Filled, Bought, Drew}
+use Rattle.booking.specs.declared.entry.EntryKind.TheVariants.{Unfilled, Filled}
 use Rattle.booking.specs.Weighing.{weight_sum, is_zero, unbalanced, unbalanced_in, is_empty, is_unfilled, has_blank, filled_with, fill, blank_amount, is_whole, is_amount, own_agrees, can_fill, filled_by, complete}
+use Rattle.booking.proofs.Filling.{blank_balances}
 use Rattle.law.proofs.Stocks.{lots_weight, lots_weight_sum}
 use Rattle.law.proofs.Plains.{KindThere, EntryThere, in_commodity}
 
 pub zero_is : (z : ℤ) → is_zero z ≡ true → z ≡ pos 0
 zero_is (pos zero) e = refl
-zero_is (pos (suc n)) e = let z : ◌≡◌ {A = ℕ} 0 1 = cc in absurd (omega arith)
-zero_is (negsuc n) e = let z : ◌≡◌ {A = ℕ} 0 1 = cc in absurd (omega arith)
-
--- a whole sum and what a blank becomes for it come to 0
-whole_blank : (z : ℤ) → is_whole z ≡ true → z +ℤ blank_amount z *ℤ pos 100 ≡ pos 0
-whole_blank (pos n) e = let r = eqb-true (n % 100) 0 e in let d = div-add-mod n 100 in omega (arith, ints)
-whole_blank (negsuc n) e = let r = eqb-true (suc n % 100) 0 e in let d = div-add-mod (suc n) 100 in omega (arith, ints)
+zero_is _ e = absurd (false≢true e)
 
 -- Filling, entry by entry. A fact of each kind that holds of a filled blank as of the blank carries over.
 
@@ -31,29 +25,23 @@ module _ (z : ℤ) (c : ℕ) where
   fill_sum f same [] = refl
   fill_sum f same (e ∷ es) =
       let ih = fill_sum f same es in
-      cond_both (is_unfilled e.kind) (record { line = e.line; kind = filled_with z c e.kind } ∷ es) (e ∷ fill z c es) (λ xs. sum_of (λ e. f e.kind) xs ≡ f e.kind + sum_of (λ e. f e.kind) es)
-      (λ _. let s = kinds e.kind in omega arith) (λ _. omega arith)
+      let s = kinds e.kind in
+      grind arith
     where
       kinds : (kind : EntryKind) → f (filled_with z c kind) ≡ f kind
-      kinds (PlainAmount account amount commodity) = refl
       kinds (Unfilled account) = same account
-      kinds (Filled account amount commodity) = refl
-      kinds (Bought key units serial) = refl
-      kinds (Drew draw) = refl
+      kinds _ = refl
 
   pub fill_sum_ints : (f : EntryKind → ℤ) → ((a : ℕ) → f (Filled a z c) ≡ f (Unfilled a)) → (es : List Entry) → sum_of_ints (λ e. f e.kind) (fill z c es) ≡ sum_of_ints (λ e. f e.kind) es
   fill_sum_ints f same [] = refl
   fill_sum_ints f same (e ∷ es) =
       let ih = fill_sum_ints f same es in
-      cond_both (is_unfilled e.kind) (record { line = e.line; kind = filled_with z c e.kind } ∷ es) (e ∷ fill z c es) (λ xs. sum_of_ints (λ e. f e.kind) xs ≡ f e.kind +ℤ sum_of_ints (λ e. f e.kind) es)
-      (λ _. let s = kinds e.kind in omega (arith, ints)) (λ _. omega (arith, ints))
+      let s = kinds e.kind in
+      grind (arith, ints)
     where
       kinds : (kind : EntryKind) → f (filled_with z c kind) ≡ f kind
-      kinds (PlainAmount account amount commodity) = refl
       kinds (Unfilled account) = same account
-      kinds (Filled account amount commodity) = refl
-      kinds (Bought key units serial) = refl
-      kinds (Drew draw) = refl
+      kinds _ = refl
 
   pub fill_all : (P : EntryKind → Type 0) → ((a : ℕ) → P (Unfilled a) → P (Filled a z c)) → (es : List Entry) → AllByRecursion (λ e. P e.kind) es → AllByRecursion (λ e. P e.kind) (fill z c es)
   fill_all P fills [] all = tt
@@ -62,17 +50,8 @@ module _ (z : ℤ) (c : ℕ) where
       (λ _. (kinds e.kind all.0, all.1)) (λ _. (all.0, fill_all P fills es all.1))
     where
       kinds : (kind : EntryKind) → P kind → P (filled_with z c kind)
-      kinds (PlainAmount account amount commodity) p = p
       kinds (Unfilled account) p = fills account p
-      kinds (Filled account amount commodity) p = p
-      kinds (Bought key units serial) p = p
-      kinds (Drew draw) p = p
-
-  pub fill_length : (es : List Entry) → length (fill z c es) ≡ length es
-  fill_length [] = refl
-  fill_length (e ∷ es) =
-      let ih = fill_length es in
-      cond_both (is_unfilled e.kind) (record { line = e.line; kind = filled_with z c e.kind } ∷ es) (e ∷ fill z c es) (λ xs. length xs ≡ suc (length es)) (λ _. refl) (λ _. ap (λ (n : ℕ). suc n) ih)
+      kinds _ p = p
 
   -- the first blank weighs what it is filled with
   fill_weight : (d : ℕ) (es : List Entry) → weight_sum (fill z c es) d ≡ weight_sum es d +ℤ cond (has_blank es) (in_commodity d c (z *ℤ pos 100)) (pos 0)
@@ -81,26 +60,20 @@ module _ (z : ℤ) (c : ℕ) where
     where
       kinds : weight_sum (fill z c es) d ≡ weight_sum es d +ℤ cond (has_blank es) (in_commodity d c (z *ℤ pos 100)) (pos 0) → (line : ℕ) (kind : EntryKind)
           → weight_sum (fill z c (record { line = line; kind = kind } ∷ es)) d ≡ weight_sum (record { line = line; kind = kind } ∷ es) d +ℤ cond (has_blank (record { line = line; kind = kind } ∷ es)) (in_commodity d c (z *ℤ pos 100)) (pos 0)
-      kinds ih line (PlainAmount account amount commodity) = omega (arith, ints)
       kinds ih line (Unfilled account) = omega (arith, ints)
-      kinds ih line (Filled account amount commodity) = omega (arith, ints)
-      kinds ih line (Bought key units serial) = omega (arith, ints)
-      kinds ih line (Drew draw) = omega (arith, ints)
+      kinds ih line _ = omega (arith, ints)
 
 -- Commodities out of balance.
-
-below_or_there : (n c : ℕ) → c ≤ suc n → (c ≡ suc n → ⊥) → c ≤ n
-below_or_there n c m ne = ⊎_elim (λ (e : c ≡ suc n). absurd (ne e)) (⊎_elim (λ (q : c < suc n). omega arith) (λ (q : suc n < c). absurd (omega arith))) (cases_order c (suc n))
 
 -- a commodity's sum is 0, or it is one of those out of balance
 balanced_or_listed : (sum : ℕ → ℤ) (n c : ℕ) → 1 ≤ c → c ≤ n → (sum c ≡ pos 0) ⊎ Member (unbalanced n sum) c
 balanced_or_listed sum zero c l m = absurd (omega arith)
 balanced_or_listed sum (suc n) c l m =
     by_bool (is_zero (sum (suc n))) (λ (b : Bool). (b ≡ true → sum (suc n) ≡ pos 0) → (sum c ≡ pos 0) ⊎ Member (cond b (unbalanced n sum) (suc n ∷ unbalanced n sum)) c)
-    (λ _ even. ⊎_elim (λ (e : c ≡ suc n). inl (ap sum e ∙ even refl)) (λ (ne : c ≡ suc n → ⊥). balanced_or_listed sum n c l (below_or_there n c m ne)) (cases_eq c (suc n)))
+    (λ _ even. ⊎_elim (λ (e : c ≡ suc n). inl (ap sum e ∙ even refl)) (λ (ne : c ≡ suc n → ⊥). balanced_or_listed sum n c l (omega arith)) (cases_eq c (suc n)))
     (λ _ even. ⊎_elim
     (λ (e : c ≡ suc n). inr (inl (sym e)))
-    (λ (ne : c ≡ suc n → ⊥). ⊎_elim (λ (p : sum c ≡ pos 0). inl p) (λ (q : Member (unbalanced n sum) c). inr (inr q)) (balanced_or_listed sum n c l (below_or_there n c m ne)))
+    (λ (ne : c ≡ suc n → ⊥). ⊎_elim (λ (p : sum c ≡ pos 0). inl p) (λ (q : Member (unbalanced n sum) c). inr (inr q)) (balanced_or_listed sum n c l (omega arith)))
     (cases_eq c (suc n)))
     (λ e. zero_is (sum (suc n)) e)
 
@@ -124,7 +97,7 @@ module _ (own : Option ℕ) (es : List Entry) where
       (λ (hb : has_blank es ≡ true).
       let z = blank_amount (weight_sum es d) in
       let fits : can_fill own (weight_sum es) (d ∷ []) ≡ true = not-false (can_fill own (weight_sum es) (d ∷ [])) (subst (λ (b : Bool). (b && not (can_fill own (weight_sum es) (d ∷ []))) ≡ false) hb t26) in
-      let whole = whole_blank (weight_sum es d) (and_parts (is_whole (weight_sum es d)) (is_amount z && own_agrees own d) fits).0 in
+      let whole = blank_balances (weight_sum es d) (and_parts (is_whole (weight_sum es d)) (is_amount z && own_agrees own d) fits).0 in
       let w = fill_weight z d c es in
       let on = cond-true (has_blank es) (in_commodity c d (z *ℤ pos 100)) (pos 0) hb in
       ⊎_elim
@@ -174,6 +147,3 @@ complete_there es all =
 
 pub complete_all : (P : EntryKind → Type 0) → ((z : ℤ) (c a : ℕ) → P (Unfilled a) → P (Filled a z c)) → (es : List Entry) → AllByRecursion (λ e. P e.kind) es → AllByRecursion (λ e. P e.kind) (complete es)
 complete_all P fills es all = complete_keeps (λ xs. AllByRecursion (λ e. P e.kind) xs) es all (λ z c _ _. fill_all z c P (fills z c) es all)
-
-pub complete_length : (es : List Entry) → length (complete es) ≡ length es
-complete_length es = complete_keeps (λ xs. length xs ≡ length es) es refl (λ z c _ _. fill_length z c es)

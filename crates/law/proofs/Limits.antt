@@ -1,9 +1,11 @@
 -- At most 256 lots are open, each within its ranges, since purchases that would pass them are refused.
-use Rattle.std.proofs.Common.{◌≡◌, ℕ, suc, ◌+◌, ◌<◌, ◌≤◌, Bool, true, false, cond, ◌&&◌, ◌||◌, ltb, leb, List, [], ◌∷◌, length, Some, None, sym, refl, ap, subst, arith}
+use Rattle.std.proofs.Common.{◌≡◌, ℕ, suc, ◌+◌, ◌<◌, ◌≤◌, Bool, true, false, cond, ◌||◌, ltb, leb, List, [], ◌∷◌, length, Some, None, refl, ap, subst, arith}
 use Rattle.std.specs.List.{AllByRecursion}
 use Rattle.std.proofs.lemmas.List.{length_push}
 use Rattle.std.proofs.ByRecursion.{All-push, All-weaker}
-use Rattle.std.proofs.lemmas.Bool.{and_from, and_parts, cond_both, le-leb, leb-true, leb-false, ltb-false}
+use Rattle.std.proofs.lemmas.Bool.Decides.{nat_tests}
+use Rattle.law.proofs.Tests.{unrefused}
+use Rattle.std.proofs.lemmas.Bool.{false≢true, cond_both, ltb-false}
 use Rattle.refusal.specs.declared.Refusal.TheVariants.{LotTooLarge, TooManyLots}
 use Rattle.lots.specs.declared.rows.Key.{Key}
 use Rattle.lots.specs.declared.rows.LotRow.{LotRow}
@@ -16,11 +18,11 @@ use Rattle.stock.specs.Tables.{Table, of_key, is_open, units_of_key, add_units}
 use Rattle.stock.specs.Kept.{WellKept}
 use Rattle.booking.specs.declared.posting.Posting.{Posting}
 use Rattle.booking.specs.declared.posting.PostingKind.{PostingKind}
-use Rattle.booking.specs.declared.posting.PostingKind.TheVariants.{Blank, Plain, Purchase, Reduction}
+use Rattle.booking.specs.declared.posting.PostingKind.TheVariants.{Purchase, Reduction}
 use Rattle.booking.specs.Postings.{purchase_key, wanted_lots, table_after_kind, table_after_posting, kind_refusal, posting_refusal}
 use Rattle.booking.specs.Booking.{table_after, first_fault}
-use Rattle.law.proofs.Serials.{Sound, LotOfOpening, false_true, all_left, added_new}
-use Rattle.law.proofs.Reaching.{none_some, first_none}
+use Rattle.law.proofs.Serials.{Sound, LotOfOpening, all_left, added_new}
+use Rattle.law.proofs.Reaching.{first_none}
 use Rattle.law.proofs.Postings.{Buys, KindOfPostingThere, PostingThere}
 
 pub record Within (t : Table) : Type 0 where
@@ -28,27 +30,22 @@ pub record Within (t : Table) : Type 0 where
   pub ranges : AllByRecursion (λ r. in_range r ≡ true) t.lots
 
 in_range_from : (r : LotRow) → 1 ≤ r.units → r.units ≤ most → r.key.cost.number ≤ most → in_range r ≡ true
-in_range_from r some few cheap =
-    and_from (leb 1 r.units) (leb r.units most && leb r.key.cost.number most) (le-leb 1 r.units some)
-    (and_from (leb r.units most) (leb r.key.cost.number most) (le-leb r.units most few) (le-leb r.key.cost.number most cheap))
+in_range_from r some few cheap = grind (arith, nat_tests)
 
 in_range_parts : (r : LotRow) → in_range r ≡ true → (1 ≤ r.units) × (r.units ≤ most) × (r.key.cost.number ≤ most)
-in_range_parts r e =
-    let p = and_parts (leb 1 r.units) (leb r.units most && leb r.key.cost.number most) e in
-    let q = and_parts (leb r.units most) (leb r.key.cost.number most) p.1 in
-    (leb-true 1 r.units p.0, leb-true r.units most q.0, leb-true r.key.cost.number most q.1)
+in_range_parts r e = (grind (arith, nat_tests), grind (arith, nat_tests), grind (arith, nat_tests))
 
 -- Purchases.
 
 module _ (k : Key) (n next : ℕ) (some : 1 ≤ n) where
   grown_length : (lots : List LotRow) → is_open k lots ≡ true → length (add_units k n next lots) ≡ length lots
-  grown_length [] e = false_true e
+  grown_length [] e = absurd (false≢true e)
   grown_length (r ∷ rs) e =
       by_bool (of_key k r) (λ (b : Bool). (b || is_open k rs) ≡ true → length (cond b (with_more r n ∷ rs) (r ∷ add_units k n next rs)) ≡ suc (length rs))
       (λ _ _. refl) (λ _ f. ap (λ (m : ℕ). suc m) (grown_length rs f)) e
 
   grown_ranges : (lots : List LotRow) → is_open k lots ≡ true → units_of_key k lots + n ≤ most → AllByRecursion (λ r. in_range r ≡ true) lots → AllByRecursion (λ r. in_range r ≡ true) (add_units k n next lots)
-  grown_ranges [] e few all = false_true e
+  grown_ranges [] e few all = absurd (false≢true e)
   grown_ranges (r ∷ rs) e few all =
       by_bool (of_key k r) (λ (b : Bool). (b || is_open k rs) ≡ true → cond b r.units 0 + units_of_key k rs + n ≤ most → AllByRecursion (λ r. in_range r ≡ true) (cond b (with_more r n ∷ rs) (r ∷ add_units k n next rs)))
       (λ _ _ sum. let p = in_range_parts r all.0 in (in_range_from (with_more r n) (omega arith) (omega arith) p.2, all.1))
@@ -61,7 +58,7 @@ bought_within k n t buys few true e met w =
     record { at_most_256 = let l = grown_length k n t.next buys.some t.lots e in let m = w.at_most_256 in omega arith; ranges = grown_ranges k n t.next buys.some t.lots e few w.ranges }
 bought_within k n t buys few false e met w =
     let x : LotRow = record { key = k; units = n; serial = t.next } in
-    let room : length t.lots < 256 = by_bool (leb 256 (length t.lots)) (λ (b : Bool). leb 256 (length t.lots) ≡ b → cond b (Some TooManyLots) None ≡ None → length t.lots < 256) (λ _ _ f. absurd (none_some TooManyLots (sym f))) (λ _ f _. leb-false 256 (length t.lots) f) refl met in
+    let room : length t.lots < 256 = grind (arith, nat_tests, met) in
     subst (λ (xs : List LotRow). Within (record { lots = xs; next = t.next + 1 })) (added_new k n t.next t.lots e)
     (record { at_most_256 = let l = length_push t.lots x in omega arith; ranges = All-push (λ r. in_range r ≡ true) t.lots x w.ranges (in_range_from x buys.some buys.few buys.cheap) })
 
@@ -79,18 +76,14 @@ left_ranges g lots all = all_left (λ r. in_range r ≡ true) g (λ r e l. let p
 -- Postings.
 
 kind_within : (o : Order) (day a : ℕ) (t : Table) (kind : PostingKind) → KindOfPostingThere a kind → kind_refusal o day a t kind ≡ None → Within t → Within (table_after_kind o day a t kind)
-kind_within o day a t Blank there e w = w
-kind_within o day a t (Plain amount commodity) there e w = w
 kind_within o day a t (Purchase n commodity cost date) there e w =
     let k = purchase_key day a commodity cost date in
-    let behind = cond (is_open k t.lots) None (cond (leb 256 (length t.lots)) (Some TooManyLots) None) in
-    by_bool (ltb most (units_of_key k t.lots + n)) (λ (b : Bool). ltb most (units_of_key k t.lots + n) ≡ b → cond b (Some LotTooLarge) behind ≡ None → Within (table_after_kind o day a t (Purchase n commodity cost date)))
-    (λ _ _ f. absurd (none_some LotTooLarge (sym f)))
-    (λ _ l f. bought_within k n t there (ltb-false most (units_of_key k t.lots + n) l) (is_open k t.lots) refl f w)
-    refl e
+    let met = unrefused (ltb most (units_of_key k t.lots + n)) LotTooLarge (cond (is_open k t.lots) None (cond (leb 256 (length t.lots)) (Some TooManyLots) None)) e in
+    bought_within k n t there (ltb-false most (units_of_key k t.lots + n) met.0) (is_open k t.lots) refl met.1 w
 kind_within o day a t (Reduction u commodity cost date) there e w =
     let g = gives (matches (wanted_lots a commodity cost date)) (o.before u) u t.lots in
     record { at_most_256 = let l = left_length g t.lots in let m = w.at_most_256 in omega arith; ranges = left_ranges g t.lots w.ranges }
+kind_within o day a t _ there e w = w
 
 pub postings_within : (o : Order) (day : ℕ) (ps : List Posting) (t : Table) → AllByRecursion PostingThere ps → first_fault o day t ps ≡ None → Within t → Within (table_after o day t ps)
 postings_within o day [] t there e w = w

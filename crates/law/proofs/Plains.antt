@@ -1,14 +1,14 @@
 -- Plain balances are what entries bring.
-use Rattle.std.proofs.Common.{◌≡◌, ℕ, zero, suc, ◌<◌, ◌≤◌, Bool, cond, eqb, leb, List, [], ◌∷◌, length, get_or, set, ℤ, pos, ◌+ℤ◌, ◌*ℤ◌, sym, refl, ◌∙◌, subst, ⊎_elim, arith, length-set}
+use Rattle.std.proofs.Common.{◌≡◌, ℕ, zero, suc, ◌<◌, ◌≤◌, cond, eqb, leb, List, [], ◌∷◌, length, ℤ, pos, ◌+ℤ◌, ◌*ℤ◌, refl, ◌∙◌, arith, length-set}
 use Rattle.std.specs.List.{AllByRecursion}
 use Rattle.std.proofs.lemmas.List.{get_or-set_same, get_or-set_other}
 use Rattle.std.proofs.lemmas.Int.{ints}
-use Rattle.std.proofs.lemmas.Bool.{cond-true, cond-false, cases_eq, cases_order, eq-eqb, ne_eqb, le-leb, lt-leb}
+use Rattle.std.proofs.lemmas.Bool.Decides.{nat_tests}
+use Rattle.std.proofs.lemmas.Bool.{cond-true, le-leb}
 use Rattle.matching.specs.Sums.{sum_of_ints}
-use Rattle.matching.proofs.Sums.{by_bool}
 use Rattle.booking.specs.declared.entry.Entry.{Entry}
 use Rattle.booking.specs.declared.entry.EntryKind.{EntryKind}
-use Rattle.booking.specs.declared.entry.EntryKind.TheVariants.{PlainAmount, Unfilled, Filled, Bought, Drew}
+use Rattle.booking.specs.declared.entry.EntryKind.TheVariants.{PlainAmount, Unfilled, Filled}
 use Rattle.booking.specs.Weighing.{kind_weight, weight_sum}
 use Rattle.booking.specs.Balances.{balance_place, balance_in, add_amount, add_kind, balances_after}
 use Rattle.books.specs.States.{Books}
@@ -30,8 +30,7 @@ abbrev pub KindThere : EntryKind → Type 0
 KindThere (PlainAmount account amount commodity) = PlaceThere account commodity
 KindThere (Unfilled account) = AccountThere account
 KindThere (Filled account amount commodity) = PlaceThere account commodity
-KindThere (Bought key units serial) = Unit {0}
-KindThere (Drew draw) = Unit {0}
+KindThere _ = Unit {0}
 
 abbrev pub EntryThere : Entry → Type 0
 EntryThere e = KindThere e.kind
@@ -42,23 +41,19 @@ in_commodity c d z = cond (eqb d c) z (pos 0)
 
 abbrev pub plain_of_kind : ℕ → EntryKind → ℤ
 plain_of_kind c (PlainAmount account amount commodity) = in_commodity c commodity amount
-plain_of_kind c (Unfilled account) = pos 0
 plain_of_kind c (Filled account amount commodity) = in_commodity c commodity amount
-plain_of_kind c (Bought key units serial) = pos 0
-plain_of_kind c (Drew draw) = pos 0
+plain_of_kind c _ = pos 0
 
 abbrev pub plain_sum : ℕ → List Entry → ℤ
 plain_sum c es = sum_of_ints (λ e. plain_of_kind c e.kind) es
 
 plain_weighs : (c d : ℕ) (z : ℤ) → in_commodity c d (z *ℤ pos 100) ≡ pos 100 *ℤ in_commodity c d z +ℤ pos 0
-plain_weighs c d z = by_bool (eqb d c) (λ (b : Bool). cond b (z *ℤ pos 100) (pos 0) ≡ pos 100 *ℤ cond b z (pos 0) +ℤ pos 0) (λ _. omega (arith, ints)) (λ _. refl)
+plain_weighs c d z = grind (arith, ints, nat_tests)
 
 kind_weighs : (c : ℕ) (kind : EntryKind) → kind_weight c kind ≡ pos 100 *ℤ plain_of_kind c kind +ℤ lots_weight c kind
 kind_weighs c (PlainAmount account amount commodity) = plain_weighs c commodity amount
-kind_weighs c (Unfilled account) = refl
 kind_weighs c (Filled account amount commodity) = plain_weighs c commodity amount
-kind_weighs c (Bought key units serial) = omega (arith, ints)
-kind_weighs c (Drew draw) = omega (arith, ints)
+kind_weighs c _ = omega (arith, ints)
 
 -- weights are 100 times the plain amounts, and the lots at cost
 pub entries_weigh : (c : ℕ) (es : List Entry) → weight_sum es c ≡ pos 100 *ℤ plain_sum c es +ℤ lots_weight_sum c es
@@ -69,33 +64,16 @@ entries_weigh c (e ∷ es) = let h = kind_weighs c e.kind in let ih = entries_we
 
 added_at : (bs : List ℤ) (a c b d : ℕ) (z : ℤ) → length bs ≡ 1024 → PlaceThere a c → PlaceThere b d → balance_in (add_amount bs b d z) a c ≡ balance_in bs a c +ℤ amount_if a c b d z
 added_at bs a c b d z len ac bd =
-    let v = balance_in bs b d +ℤ z in
-    ⊎_elim
-    (λ (e : b ≡ a). ⊎_elim
-    (λ (f : d ≡ c).
-    let same : balance_place b d ≡ balance_place a c = omega arith in
-    let on : amount_if a c b d z ≡ z = cond-true (eqb b a) (cond (eqb d c) z (pos 0)) (pos 0) (eq-eqb b a e) ∙ cond-true (eqb d c) z (pos 0) (eq-eqb d c f) in
-    let got : balance_in (add_amount bs b d z) a c ≡ balance_in bs a c +ℤ z = subst (λ (i : ℕ). get_or (set bs i (get_or bs i (pos 0) +ℤ z)) (balance_place a c) (pos 0) ≡ balance_in bs a c +ℤ z) (sym same) (get_or-set_same bs (balance_place a c) (balance_in bs a c +ℤ z) (pos 0) (omega arith)) in
-    omega (arith, ints))
-    (λ (f : d ≡ c → ⊥).
-    let other : balance_place a c ≡ balance_place b d → ⊥ = λ s. f (omega arith) in
-    let off : amount_if a c b d z ≡ pos 0 = cond-true (eqb b a) (cond (eqb d c) z (pos 0)) (pos 0) (eq-eqb b a e) ∙ cond-false (eqb d c) z (pos 0) (ne_eqb d c f) in
-    let got = get_or-set_other bs (balance_place b d) (balance_place a c) v (pos 0) other in
-    omega (arith, ints))
-    (cases_eq d c))
-    (λ (e : b ≡ a → ⊥).
-    let other : balance_place a c ≡ balance_place b d → ⊥ = λ s. e (omega arith) in
-    let off : amount_if a c b d z ≡ pos 0 = cond-false (eqb b a) (cond (eqb d c) z (pos 0)) (pos 0) (ne_eqb b a e) in
-    let got = get_or-set_other bs (balance_place b d) (balance_place a c) v (pos 0) other in
-    omega (arith, ints))
-    (cases_eq b a)
+    let place : balance_place a c ≡ balance_place b d → (b ≡ a) × (d ≡ c) = λ e. (omega arith, omega arith) in
+    let within : balance_place a c < length bs = omega arith in
+    let same = get_or-set_same bs (balance_place b d) (balance_in bs b d +ℤ z) (pos 0) (omega arith) in
+    let other = get_or-set_other bs (balance_place b d) (balance_place a c) (balance_in bs b d +ℤ z) (pos 0) in
+    grind (arith, ints, nat_tests)
 
 kind_length : (bs : List ℤ) (kind : EntryKind) → length (add_kind bs kind) ≡ length bs
 kind_length bs (PlainAmount account amount commodity) = simp length-set
-kind_length bs (Unfilled account) = refl
 kind_length bs (Filled account amount commodity) = simp length-set
-kind_length bs (Bought key units serial) = refl
-kind_length bs (Drew draw) = refl
+kind_length bs _ = refl
 
 pub balances_length : (es : List Entry) (bs : List ℤ) → length (balances_after bs es) ≡ length bs
 balances_length [] bs = refl
@@ -103,10 +81,8 @@ balances_length (e ∷ es) bs = balances_length es (add_kind bs e.kind) ∙ kind
 
 kind_at : (bs : List ℤ) (a c : ℕ) (kind : EntryKind) → length bs ≡ 1024 → PlaceThere a c → KindThere kind → balance_in (add_kind bs kind) a c ≡ balance_in bs a c +ℤ amount_of_kind a c kind
 kind_at bs a c (PlainAmount account amount commodity) len ac there = added_at bs a c account commodity amount len ac there
-kind_at bs a c (Unfilled account) len ac there = omega (arith, ints)
 kind_at bs a c (Filled account amount commodity) len ac there = added_at bs a c account commodity amount len ac there
-kind_at bs a c (Bought key units serial) len ac there = omega (arith, ints)
-kind_at bs a c (Drew draw) len ac there = omega (arith, ints)
+kind_at bs a c _ len ac there = omega (arith, ints)
 
 pub balances_at : (es : List Entry) (bs : List ℤ) (a c : ℕ) → length bs ≡ 1024 → PlaceThere a c → AllByRecursion EntryThere es → balance_in (balances_after bs es) a c ≡ balance_in bs a c +ℤ amount_settled a c es
 balances_at [] bs a c len ac all = omega (arith, ints)
@@ -135,28 +111,8 @@ amounts_cons (suc n) c e es = let ih = amounts_cons n c e es in omega (arith, in
 
 -- an amount is settled in one account
 one_account : (n c b d : ℕ) (z : ℤ) → 1 ≤ b → amounts_of_kind_to n c (PlainAmount b z d) ≡ cond (leb b n) (in_commodity c d z) (pos 0)
-one_account zero c b d z h = sym (cond-false (leb b 0) (in_commodity c d z) (pos 0) (lt-leb b 0 h))
-one_account (suc n) c b d z h =
-    let ih = one_account n c b d z h in
-    let x = in_commodity c d z in
-    ⊎_elim
-    (λ (e : b ≡ suc n).
-    let p = cond-true (eqb b (suc n)) x (pos 0) (eq-eqb b (suc n) e) in
-    let q = cond-true (leb b (suc n)) x (pos 0) (le-leb b (suc n) (omega arith)) in
-    let r = cond-false (leb b n) x (pos 0) (lt-leb b n (omega arith)) in
-    omega (arith, ints))
-    (⊎_elim
-    (λ (l : b < suc n).
-    let p = cond-false (eqb b (suc n)) x (pos 0) (ne_eqb b (suc n) (λ e. omega arith)) in
-    let q = cond-true (leb b (suc n)) x (pos 0) (le-leb b (suc n) (omega arith)) in
-    let r = cond-true (leb b n) x (pos 0) (le-leb b n (omega arith)) in
-    omega (arith, ints))
-    (λ (l : suc n < b).
-    let p = cond-false (eqb b (suc n)) x (pos 0) (ne_eqb b (suc n) (λ e. omega arith)) in
-    let q = cond-false (leb b (suc n)) x (pos 0) (lt-leb b (suc n) (omega arith)) in
-    let r = cond-false (leb b n) x (pos 0) (lt-leb b n (omega arith)) in
-    omega (arith, ints)))
-    (cases_order b (suc n))
+one_account zero c b d z h = grind (arith, nat_tests)
+one_account (suc n) c b d z h = let ih = one_account n c b d z h in grind (arith, ints, nat_tests)
 
 filled_alike : (n c b d : ℕ) (z : ℤ) → amounts_of_kind_to n c (Filled b z d) ≡ amounts_of_kind_to n c (PlainAmount b z d)
 filled_alike zero c b d z = refl
@@ -168,10 +124,8 @@ no_amount (suc n) c kind h = let ih = no_amount n c kind h in let g = h (suc n) 
 
 kind_spread : (c : ℕ) (kind : EntryKind) → KindThere kind → amounts_of_kind_to 64 c kind ≡ plain_of_kind c kind
 kind_spread c (PlainAmount b z d) there = one_account 64 c b d z there.a_low ∙ cond-true (leb b 64) (in_commodity c d z) (pos 0) (le-leb b 64 there.a_high)
-kind_spread c (Unfilled b) there = no_amount 64 c (Unfilled b) (λ a. refl)
 kind_spread c (Filled b z d) there = filled_alike 64 c b d z ∙ one_account 64 c b d z there.a_low ∙ cond-true (leb b 64) (in_commodity c d z) (pos 0) (le-leb b 64 there.a_high)
-kind_spread c (Bought key units serial) there = no_amount 64 c (Bought key units serial) (λ a. refl)
-kind_spread c (Drew draw) there = no_amount 64 c (Drew draw) (λ a. refl)
+kind_spread c kind there = no_amount 64 c kind (λ a. refl)
 
 entries_spread : (c : ℕ) (es : List Entry) → AllByRecursion EntryThere es → amounts_to 64 c es ≡ plain_sum c es
 entries_spread c [] all = amounts_none 64 c
@@ -190,5 +144,4 @@ balances_spread (suc n) c b es h l m s =
 
 pub balances_plain : (c : ℕ) (b : Books) (es : List Entry) → 1 ≤ c → c ≤ 16 → AllByRecursion EntryThere es → BalancesAreSettled es b → balances_to 64 c b ≡ plain_sum c es
 balances_plain c b es l m all s =
-    let n : 64 ≤ 64 = omega arith in
-    balances_spread 64 c b es n l m s ∙ entries_spread c es all
+    balances_spread 64 c b es (omega arith) l m s ∙ entries_spread c es all

@@ -1,41 +1,28 @@
 -- Which posting settling reaches, and what it answers there.
-use Rattle.std.proofs.Common.{◌≡◌, ℕ, ◌+◌, ◌<◌, ◌≤◌, Bool, true, false, cond, ltb, leb, ◌⊎◌, List, [], ◌∷◌, ◌++◌, length, Some, None, Option, sym, refl, ap, ◌∙◌, subst, inl, inr, ⊎_elim, arith}
-use Rattle.std.specs.Option.{option_map}
-use Rattle.std.proofs.lemmas.Bool.{cond-true, cond-false, cases_Bool, ltb-true, ltb-false, lt-ltb, le-ltb}
+use Rattle.std.proofs.Common.{◌≡◌, ℕ, ◌≤◌, ◌⊎◌, List, [], ◌∷◌, ◌++◌, Some, None, Option, sym, refl, ap, ◌∙◌, subst, inl, inr, ⊎_elim, arith}
+use Rattle.std.proofs.lemmas.Bool.Decides.{nat_tests}
 use Rattle.refusal.specs.declared.Refusal.{Refusal}
-use Rattle.refusal.specs.declared.Refusal.TheVariants.{LotTooLarge, TooFewUnits, NotSettledByPolicy, TooManyLots}
 use Rattle.refusal.specs.declared.Fault.{Fault}
-use Rattle.refusal.specs.Table.{number_of}
 use Rattle.lots.specs.declared.rows.Cost.{Cost}
 use Rattle.lots.specs.declared.rows.Key.{Key}
-use Rattle.lots.specs.Rows.{most}
 use Rattle.lots.specs.Orders.{Order, Keeps}
 use Rattle.matching.specs.Matching.{matches, units_matching}
 use Rattle.matching.specs.declared.wanted.Draw.{Draw}
-use Rattle.matching.specs.Drawing.{settled, draws_of, lots_after}
+use Rattle.matching.specs.Drawing.{draws_of, lots_after}
 use Rattle.matching.specs.Drawn.{SerialsRise, Drawn}
-use Rattle.matching.proofs.Sums.{by_bool}
 use Rattle.matching.proofs.Drawing.{closed_form_is_drawn}
 use Rattle.matching.proofs.Earliest.{unsettled_from, unsettled_to}
-use Rattle.stock.specs.Tables.{Table, is_open, units_of_key}
+use Rattle.stock.specs.Tables.{Table}
 use Rattle.booking.specs.declared.posting.Posting.{Posting}
 use Rattle.booking.specs.declared.posting.PostingKind.{PostingKind}
-use Rattle.booking.specs.declared.posting.PostingKind.TheVariants.{Blank, Plain, Purchase, Reduction}
-use Rattle.booking.specs.Postings.{purchase_key, wanted_lots, table_after_posting, draw_entries, kind_refusal, posting_refusal}
+use Rattle.booking.specs.declared.posting.PostingKind.TheVariants.{Purchase, Reduction}
+use Rattle.booking.specs.Postings.{wanted_lots, table_after_posting, draw_entries, kind_refusal, posting_refusal}
 use Rattle.booking.specs.Booking.{at_line, or_else, first_fault}
 use Rattle.law.specs.Histories.{opened_by_kind}
 use Rattle.law.specs.Reductions.{draws_among, KindDraws, DrawsByPolicy, AsksTooMany, IsUnsettled, Reaches}
 use Rattle.law.proofs.Serials.{Sound, AllSome, kind_sound}
-
--- the number of a refusal, and of a fault, if there is one
-abbrev pub refusal_number : Option Refusal → Option ℕ
-refusal_number r = option_map number_of r
-
-abbrev pub fault_number : Option Fault → Option ℕ
-fault_number f = option_map (λ x. number_of x.refusal) f
-
-pub none_some : {X : Type 0} (x : X) → None ≡ Some x → ⊥
-none_some x e = let z : ◌≡◌ {A = ℕ} 0 1 = cc in omega arith
+use Rattle.law.proofs.Tests.{refusal_number, fault_number}
+use Rattle.std.proofs.lemmas.Option.{none-some}
 
 pub some_differ : (m n : ℕ) → (m ≡ n → ⊥) → ◌≡◌ {A = Option ℕ} (Some m) (Some n) → ⊥
 some_differ m n ne e = ne (cc)
@@ -49,78 +36,47 @@ module _ (o : Order) (keeps : Keeps o) (day a : ℕ) (t : Table) where
   -- a purchase meets 21 or 24 alone
   not_bought : (units commodity : ℕ) (cost : Cost) (date : Option ℕ) (n : ℕ) → (21 ≡ n → ⊥) → (24 ≡ n → ⊥) → refusal_number (kind_refusal o day a t (Purchase units commodity cost date)) ≡ Some n → ⊥
   not_bought units commodity cost date n not_21 not_24 =
-      let k = purchase_key day a commodity cost date in
-      by_bool (ltb most (units_of_key k t.lots + units)) (λ (b : Bool). refusal_number (cond b (Some LotTooLarge) (cond (is_open k t.lots) None (cond (leb 256 (length t.lots)) (Some TooManyLots) None))) ≡ Some n → ⊥)
-      (λ _ e. some_differ 21 n not_21 e)
-      (λ _. by_bool (is_open k t.lots) (λ (b : Bool). refusal_number (cond b None (cond (leb 256 (length t.lots)) (Some TooManyLots) None)) ≡ Some n → ⊥)
-      (λ _ e. none_some n e)
-      (λ _. by_bool (leb 256 (length t.lots)) (λ (b : Bool). refusal_number (cond b (Some TooManyLots) None) ≡ Some n → ⊥) (λ _ e. some_differ 24 n not_24 e) (λ _ e. none_some n e)))
+      λ (e : refusal_number (kind_refusal o day a t (Purchase units commodity cost date)) ≡ Some n). grind (arith, nat_tests)
 
   -- 22 exactly where a reduction asks for too many
   too_many_from : (kind : PostingKind) → refusal_number (kind_refusal o day a t kind) ≡ Some 22 → AsksTooMany a t kind
-  too_many_from Blank e = absurd (none_some 22 e)
-  too_many_from (Plain amount commodity) e = absurd (none_some 22 e)
+  too_many_from (Reduction u commodity cost date) e = grind (arith, nat_tests)
   too_many_from (Purchase units commodity cost date) e = absurd (not_bought units commodity cost date 22 (λ q. omega arith) (λ q. omega arith) e)
-  too_many_from (Reduction u commodity cost date) met =
-      let M = matches (wanted_lots a commodity cost date) in
-      by_bool (ltb (units_matching M t.lots) u) (λ (b : Bool). refusal_number (cond b (Some TooFewUnits) (cond (settled o M u t.lots) None (Some NotSettledByPolicy))) ≡ Some 22 → units_matching M t.lots < u)
-      (λ l _. ltb-true (units_matching M t.lots) u l)
-      (λ _. by_bool (settled o M u t.lots) (λ (b : Bool). refusal_number (cond b None (Some NotSettledByPolicy)) ≡ Some 22 → units_matching M t.lots < u) (λ _ e. absurd (none_some 22 e)) (λ _ e. absurd (some_differ 23 22 (λ q. omega arith) e)))
-      met
+  too_many_from _ e = absurd (none-some 22 e)
 
   too_many_to : (kind : PostingKind) → AsksTooMany a t kind → refusal_number (kind_refusal o day a t kind) ≡ Some 22
-  too_many_to Blank h = absurd h
-  too_many_to (Plain amount commodity) h = absurd h
-  too_many_to (Purchase units commodity cost date) h = absurd h
-  too_many_to (Reduction u commodity cost date) h =
-      let M = matches (wanted_lots a commodity cost date) in
-      ap refusal_number (cond-true (ltb (units_matching M t.lots) u) (Some TooFewUnits) (cond (settled o M u t.lots) None (Some NotSettledByPolicy)) (lt-ltb (units_matching M t.lots) u h))
+  too_many_to (Reduction u commodity cost date) h = grind (arith, nat_tests)
+  too_many_to _ h = absurd h
 
   -- 23 exactly where a reduction is covered and not settled
   unsettled_is_met : (kind : PostingKind) → refusal_number (kind_refusal o day a t kind) ≡ Some 23 → IsUnsettled o a t kind
-  unsettled_is_met Blank e = absurd (none_some 23 e)
-  unsettled_is_met (Plain amount commodity) e = absurd (none_some 23 e)
+  unsettled_is_met (Reduction u commodity cost date) e = unsettled_from o keeps (matches (wanted_lots a commodity cost date)) u t.lots (grind (arith, nat_tests)) (grind (arith, nat_tests))
   unsettled_is_met (Purchase units commodity cost date) e = absurd (not_bought units commodity cost date 23 (λ q. omega arith) (λ q. omega arith) e)
-  unsettled_is_met (Reduction u commodity cost date) met =
-      let M = matches (wanted_lots a commodity cost date) in
-      by_bool (ltb (units_matching M t.lots) u) (λ (b : Bool). refusal_number (cond b (Some TooFewUnits) (cond (settled o M u t.lots) None (Some NotSettledByPolicy))) ≡ Some 23 → IsUnsettled o a t (Reduction u commodity cost date))
-      (λ _ e. absurd (some_differ 22 23 (λ q. omega arith) e))
-      (λ l. by_bool (settled o M u t.lots) (λ (b : Bool). refusal_number (cond b None (Some NotSettledByPolicy)) ≡ Some 23 → IsUnsettled o a t (Reduction u commodity cost date))
-      (λ _ e. absurd (none_some 23 e))
-      (λ off _. unsettled_from o keeps M u t.lots (ltb-false (units_matching M t.lots) u l) off))
-      met
+  unsettled_is_met _ e = absurd (none-some 23 e)
 
   unsettled_meets : (kind : PostingKind) → SerialsRise t.lots → IsUnsettled o a t kind → refusal_number (kind_refusal o day a t kind) ≡ Some 23
-  unsettled_meets Blank ri h = absurd h
-  unsettled_meets (Plain amount commodity) ri h = absurd h
-  unsettled_meets (Purchase units commodity cost date) ri h = absurd h
   unsettled_meets (Reduction u commodity cost date) ri h =
-      let M = matches (wanted_lots a commodity cost date) in
-      ap refusal_number
-      (cond-false (ltb (units_matching M t.lots) u) (Some TooFewUnits) (cond (settled o M u t.lots) None (Some NotSettledByPolicy)) (le-ltb (units_matching M t.lots) u h.0)
-      ∙ cond-false (settled o M u t.lots) None (Some NotSettledByPolicy) (unsettled_to o keeps M u t.lots ri h))
+      let off = unsettled_to o keeps (matches (wanted_lots a commodity cost date)) u t.lots ri h in
+      let covered = h.0 in
+      grind (arith, nat_tests)
+  unsettled_meets _ ri h = absurd h
 
   -- a reduction that meets nothing draws by the policy
   kind_draws : (line : ℕ) (kind : PostingKind) (opened : List Key) → Sound opened t → kind_refusal o day a t kind ≡ None → KindDraws o day line a t kind
-  kind_draws line Blank opened s e = tt
-  kind_draws line (Plain amount commodity) opened s e = tt
-  kind_draws line (Purchase units commodity cost date) opened s e = tt
   kind_draws line (Reduction u commodity cost date) opened s e =
       let M = matches (wanted_lots a commodity cost date) in
-      let rest = cond (settled o M u t.lots) None (Some NotSettledByPolicy) in
-      let covered : u ≤ units_matching M t.lots = ⊎_elim
-      (λ (b : ltb (units_matching M t.lots) u ≡ true). absurd (none_some TooFewUnits (sym e ∙ cond-true (ltb (units_matching M t.lots) u) (Some TooFewUnits) rest b)))
-      (λ (b : ltb (units_matching M t.lots) u ≡ false). ltb-false (units_matching M t.lots) u b) (cases_Bool (ltb (units_matching M t.lots) u)) in
+      let covered : u ≤ units_matching M t.lots = grind (arith, nat_tests) in
       subst (λ (ds : List Draw). Drawn M (o.before u) u t.lots (lots_after o (wanted_lots a commodity cost date) u t.lots) ds) (sym (draws_back line (draws_of o (wanted_lots a commodity cost date) u t.lots)))
       (closed_form_is_drawn M (o.before u) (keeps.irreflexive u) (keeps.transitive u) (keeps.exactly_one u) u t.lots s.rising s.some covered)
+  kind_draws line _ opened s e = tt
 
 pub first_none : (line : ℕ) (m : Option Refusal) (rest : Option Fault) → or_else (at_line line m) rest ≡ None → (m ≡ None) × (rest ≡ None)
 first_none line None rest e = (refl, e)
-first_none line (Some r) rest e = absurd (none_some _ (sym e))
+first_none line (Some r) rest e = absurd (none-some _ (sym e))
 
 -- a refusal of that number comes first
 first_number : (line : ℕ) (m : Option Refusal) (rest : Option Fault) (n : ℕ) → refusal_number m ≡ Some n → fault_number (or_else (at_line line m) rest) ≡ Some n
-first_number line None rest n e = absurd (none_some n e)
+first_number line None rest n e = absurd (none-some n e)
 first_number line (Some r) rest n e = e
 
 module _ (o : Order) (keeps : Keeps o) (day : ℕ) where
@@ -140,7 +96,7 @@ module _ (o : Order) (keeps : Keeps o) (day : ℕ) where
     here_or_later p t rest R later (Some r) e q = inl (to p.account t p.kind (ap refusal_number e ∙ q))
 
     pub reached : (ps : List Posting) (t : Table) → fault_number (first_fault o day t ps) ≡ Some n → Reaches o day P t ps
-    reached [] t e = absurd (none_some n e)
+    reached [] t e = absurd (none-some n e)
     reached (p ∷ ps) t e =
         let after = table_after_posting o day t p in
         here_or_later p t (first_fault o day after ps) (Reaches o day P after ps) (reached ps after) (posting_refusal o day t p) refl e

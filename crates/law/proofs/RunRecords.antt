@@ -16,7 +16,7 @@ use Rattle.booking.specs.Balances.{first_met}
 use Rattle.booking.specs.Rows.{row_of, rows_of}
 use Rattle.booking.specs.declared.draft.Draft.{Draft}
 use Rattle.books.specs.States.{State, empty_ledger}
-use Rattle.books.specs.Calls.{Call, declaring, opening, asserting, closing, beginning, posting, settling, tearing, writing_header}
+use Rattle.books.specs.Calls.{Call, settling, writing_header}
 use Rattle.books.specs.Conditions.{no_such_draft, record_too_short}
 use Rattle.books.specs.Refusals.{first_fault_met, if_given, draft_entries, whole_draft_tests, draft_tests, refusal}
 use Rattle.books.specs.Changes.{settled_entries, after_settling}
@@ -26,9 +26,9 @@ use Rattle.books.proofs.Nested.{draft_first}
 use Rattle.law.specs.Histories.{Settlement, History, accepted, with_settlement, after_accepted, after_call, history_after, all_entries, all_rows}
 use Rattle.law.specs.Records.{writes, any_wrote, header_of_history, recorded, LentWithin, lend_within, RecordStands}
 use Rattle.law.proofs.Sums.{joined_push}
-use Rattle.law.proofs.Fills.{complete_length}
-use Rattle.law.proofs.Reaching.{none_some}
-use Rattle.law.proofs.Tests.{none_met, no_line, both_none}
+use Rattle.booking.proofs.Filling.{length_complete}
+use Rattle.std.proofs.Math.Bool.{or_assoc}
+use Rattle.law.proofs.Tests.{none_met, no_line, both_none, unrefused}
 use Rattle.law.proofs.Runs.{Good, history, reply_accepted, answered_kept, empty_good}
 use Rattle.law.proofs.Bytes.{headed_over, recorded_behind, untouched}
 
@@ -50,17 +50,8 @@ room_for_draft o s lent d e =
     let parts = both_none (first_fault o d.date s.books.table d.postings) (at_line d.line (first_met whole)) (sym (draft_first o s lent d) ∙ e) in
     let unmet = none_met whole (no_line d.line (first_met whole) parts.1) in
     let room = leb-true (first_free (s.rows + length booked)) lent (not-false (leb (first_free (s.rows + length booked)) lent) unmet.1.1.1.0) in
-    let same = complete_length booked in
+    let same = length_complete booked in
     omega arith
-
--- a test that is not met, and what is behind it
-unrefused : (b : Bool) (f : Fault) (rest : Option Fault) → cond b (Some f) rest ≡ None → (b ≡ false) × (rest ≡ None)
-unrefused true f rest e = absurd (none_some f (sym e))
-unrefused false f rest e = (refl, e)
-
-regroup : (a b c : Bool) → ((a || b) || c) ≡ (a || (b || c))
-regroup true b c = refl
-regroup false b c = refl
 
 module _ (o : Order) (start : List ℕ) where
   -- the record between calls: a header's place, the rows, and the bytes as they were; the header is that of the history once a call wrote
@@ -146,18 +137,12 @@ module _ (o : Order) (start : List ℕ) where
 
   accepted_holds : (c : Call) (wrote : Bool) (s : State) (opened : List Key) (xs : List Settlement) (book : List ℕ) → refusal o s c ≡ None → LentWithin (length start) c → Good s opened xs → Holds wrote (history s opened xs) book
       → Holds (wrote || writes c) (after_accepted o (history s opened xs) c) (record_change o s c book)
-  accepted_holds (declaring source date name) wrote s opened xs book e l g holds = same_holds wrote (history s opened xs) (after_accepted o (history s opened xs) (declaring source date name)) book refl refl holds
-  accepted_holds (opening source date name own) wrote s opened xs book e l g holds = same_holds wrote (history s opened xs) (after_accepted o (history s opened xs) (opening source date name own)) book refl refl holds
-  accepted_holds (asserting source date account amount commodity) wrote s opened xs book e l g holds = same_holds wrote (history s opened xs) (history s opened xs) book refl refl holds
-  accepted_holds (closing source date account) wrote s opened xs book e l g holds = same_holds wrote (history s opened xs) (after_accepted o (history s opened xs) (closing source date account)) book refl refl holds
-  accepted_holds (beginning source date flag) wrote s opened xs book e l g holds = same_holds wrote (history s opened xs) (after_accepted o (history s opened xs) (beginning source date flag)) book refl refl holds
-  accepted_holds (posting slip source account amount) wrote s opened xs book e l g holds = same_holds wrote (history s opened xs) (after_accepted o (history s opened xs) (posting slip source account amount)) book refl refl holds
   accepted_holds (settling slip lent) wrote s opened xs book e l g holds =
       let parts = unrefused (no_such_draft s slip) (fault_at 0 NoSuchDraft) (first_fault_met (if_given (draft_tests o s lent) s.draft)) e in
       wrote_now wrote (after_accepted o (history s opened xs) (settling slip lent)) (record_change o s (settling slip lent) book) (settling_holds wrote s opened xs slip lent book s.draft parts.0 parts.1 l g holds)
-  accepted_holds (tearing slip) wrote s opened xs book e l g holds = same_holds wrote (history s opened xs) (after_accepted o (history s opened xs) (tearing slip)) book refl refl holds
   accepted_holds (writing_header lent) wrote s opened xs book e l g holds =
       wrote_now wrote (history s opened xs) (record_change o s (writing_header lent) book) (headed_holds wrote s opened xs lent book (unrefused (record_too_short lent s.rows) (fault_at 0 RecordTooShort) None e).0 l g holds)
+  accepted_holds c wrote s opened xs book e l g holds = same_holds wrote (history s opened xs) (after_accepted o (history s opened xs) c) book refl refl holds
 
   step_holds : (c : Call) (wrote : Bool) (s : State) (opened : List Key) (xs : List Settlement) (book : List ℕ) (r : Option Fault) → refusal o s c ≡ r → LentWithin (length start) c → Good s opened xs → Holds wrote (history s opened xs) book
       → Holds (wrote || (accepted (answered o s c r).0 && writes c)) (after_call o (history s opened xs) c (answered o s c r).0) (record_answered o s c book r)
@@ -178,7 +163,7 @@ module _ (o : Order) (start : List ℕ) where
       let far = run_holds keeps cs now_wrote s1 h1.opened h1.settlements (record_after_call o s c book) l.1 kept.0 (subst (λ (h : History). Holds now_wrote h (record_after_call o s c book)) (sym kept.1) next) in
       far
       ∙ ap (λ (h : History). cond (now_wrote || any_wrote cs (outcomes o s1 cs)) (recorded o (history_after o h cs (outcomes o s1 cs)) start) start) kept.1
-      ∙ ap (λ (b : Bool). cond b (recorded o (history_after o h1 cs (outcomes o s1 cs)) start) start) (regroup wrote (accepted x && writes c) (any_wrote cs (outcomes o s1 cs)))
+      ∙ ap (λ (b : Bool). cond b (recorded o (history_after o h1 cs (outcomes o s1 cs)) start) start) (or_assoc wrote (accepted x && writes c) (any_wrote cs (outcomes o s1 cs)))
 
 pub record_stands : RecordStands
 record_stands o keeps calls book lent = run_holds o book keeps calls false empty_ledger [] [] book lent empty_good (record { is = refl; early = λ _. refl })
@@ -189,12 +174,6 @@ lent_within size [] = tt
 lent_within size (c ∷ cs) = (at c, lent_within size cs)
   where
     at : (c : Call) → LentWithin size (lend_within size c)
-    at (declaring source date name) = tt
-    at (opening source date name own) = tt
-    at (asserting source date account amount commodity) = tt
-    at (closing source date account) = tt
-    at (beginning source date flag) = tt
-    at (posting slip source account amount) = tt
     at (settling slip lent) = omega arith
-    at (tearing slip) = tt
     at (writing_header lent) = omega arith
+    at _ = tt

@@ -5,7 +5,8 @@ use Rattle.std.specs.List.{AllByRecursion}
 use Rattle.std.proofs.lemmas.List.{get_or-replicate}
 use Rattle.std.proofs.ByRecursion.{All-append, All-push}
 use Rattle.std.proofs.lemmas.Int.{ints}
-use Rattle.std.proofs.lemmas.Bool.{or_parts, leb-false, cond-true}
+use Rattle.std.proofs.lemmas.Bool.{or_parts, leb-false, cond-true, false≢true}
+use Rattle.std.proofs.lemmas.Option.{none-some}
 use Rattle.refusal.specs.declared.Refusal.{Refusal}
 use Rattle.refusal.specs.declared.Refusal.TheVariants.{NoSuchDraft, BadCommodityName, BadAccountName, CommodityDeclaredAlready, CommodityNotDeclared, AccountOpenedBefore, BooksFull}
 use Rattle.refusal.specs.declared.Fault.{Fault}
@@ -23,7 +24,7 @@ use Rattle.booking.specs.Balances.{first_met}
 use Rattle.books.specs.declared.outcome.Outcome.{Outcome}
 use Rattle.booking.specs.declared.draft.Draft.{Draft}
 use Rattle.books.specs.States.{Books, State, empty_ledger}
-use Rattle.books.specs.Calls.{Call, declaring, opening, asserting, closing, beginning, posting, settling, tearing, writing_header, AmountGiven}
+use Rattle.books.specs.Calls.{Call, declaring, opening, asserting, closing, posting, settling, writing_header, AmountGiven}
 use Rattle.books.specs.Lookups.{own_of}
 use Rattle.books.specs.Conditions.{no_such_draft, bad_commodity_name, bad_account_name, declared_already, not_declared, opened_before, commodities_full, accounts_full}
 use Rattle.books.specs.Refusals.{first_fault_met, if_given, dated_tests, posting_tests, draft_entries, whole_draft_tests, draft_tests, refusal}
@@ -40,8 +41,8 @@ use Rattle.law.proofs.Stocks.{lots_weight, lots_weight_sum, postings_units, post
 use Rattle.law.proofs.Plains.{EntryThere, entries_weigh, balances_length, balances_at, balances_plain}
 use Rattle.law.proofs.Fills.{complete_balances, complete_sum, complete_lots_weight, complete_there, complete_all}
 use Rattle.law.proofs.Serials.{Sound, bears_more, postings_sound, postings_bear}
-use Rattle.law.proofs.Reaching.{none_some, some_differ, fault_number, draft_draws, too_many_reached, too_many_reaching, unsettled_reached, unsettled_reaching}
-use Rattle.law.proofs.Tests.{Unmet, none_met, no_line, none_met_at, all_right, both_none, number_differs}
+use Rattle.law.proofs.Reaching.{some_differ, draft_draws, too_many_reached, too_many_reaching, unsettled_reached, unsettled_reaching}
+use Rattle.law.proofs.Tests.{fault_number, Unmet, unrefused, none_met, no_line, none_met_at, all_right, both_none, number_differs}
 use Rattle.law.proofs.Limits.{Within, postings_within, well_kept}
 use Rattle.law.proofs.Postings.{Few, PostingThere, DraftThere, entries_there, all_some, joins_there}
 
@@ -161,19 +162,14 @@ module _ (o : Order) where
       let behind_own = all_right (λ t. t.1 ≡ false) declared _ behind_fields.1 in
       let room = leb-false 64 (length s.names.accounts) behind_own.1.0 in
       record { names = record { commodities = g.names.commodities; accounts = simp length-append (omega arith) }; draft = g.draft; books = g.books; rows = g.rows; transactions = g.transactions }
-  accepted_good (asserting source date account amount commodity) s opened xs e g = record { names = g.names; draft = g.draft; books = g.books; rows = g.rows; transactions = g.transactions }
   accepted_good (closing source date account) s opened xs e g =
       record { names = record { commodities = g.names.commodities; accounts = simp length-set g.names.accounts }; draft = g.draft; books = g.books; rows = g.rows; transactions = g.transactions }
-  accepted_good (beginning source date flag) s opened xs e g = record { names = g.names; draft = tt; books = g.books; rows = g.rows; transactions = g.transactions }
   accepted_good (posting slip source account amount) s opened xs e g =
       record { names = g.names; draft = joined_there s slip source account amount g.names (none_met_at source (posting_tests s slip account amount) e) s.draft g.draft; books = g.books; rows = g.rows; transactions = g.transactions }
-  accepted_good (settling slip lent) s opened xs e g = settled_good o s lent s.draft opened xs (behind_2 (no_such_draft s slip) e) g.draft g
-    where
-      behind_2 : (b : Bool) → cond b (Some (fault_at 0 NoSuchDraft)) (first_fault_met (if_given (draft_tests o s lent) s.draft)) ≡ None → first_fault_met (if_given (draft_tests o s lent) s.draft) ≡ None
-      behind_2 true e = absurd (none_some _ (sym e))
-      behind_2 false e = e
-  accepted_good (tearing slip) s opened xs e g = record { names = g.names; draft = tt; books = g.books; rows = g.rows; transactions = g.transactions }
+  accepted_good (settling slip lent) s opened xs e g = settled_good o s lent s.draft opened xs (unrefused (no_such_draft s slip) (fault_at 0 NoSuchDraft) (first_fault_met (if_given (draft_tests o s lent) s.draft)) e).1 g.draft g
+  accepted_good (asserting source date account amount commodity) s opened xs e g = record { names = g.names; draft = g.draft; books = g.books; rows = g.rows; transactions = g.transactions }
   accepted_good (writing_header lent) s opened xs e g = g
+  accepted_good _ s opened xs e g = record { names = g.names; draft = tt; books = g.books; rows = g.rows; transactions = g.transactions }
 
   -- an accepted call leaves what the history says
   settled_history : (s : State) (opened : List Key) (xs : List Settlement) (d : Option Draft)
@@ -183,26 +179,12 @@ module _ (o : Order) where
 
   accepted_history : (c : Call) (s : State) (opened : List Key) (xs : List Settlement)
       → history (change o s c) (after_accepted o (history s opened xs) c).opened (after_accepted o (history s opened xs) c).settlements ≡ after_accepted o (history s opened xs) c
-  accepted_history (declaring source date name) s opened xs = refl
-  accepted_history (opening source date name own) s opened xs = refl
-  accepted_history (asserting source date account amount commodity) s opened xs = refl
-  accepted_history (closing source date account) s opened xs = refl
-  accepted_history (beginning source date flag) s opened xs = refl
-  accepted_history (posting slip source account amount) s opened xs = refl
   accepted_history (settling slip lent) s opened xs = settled_history s opened xs s.draft
-  accepted_history (tearing slip) s opened xs = refl
-  accepted_history (writing_header lent) s opened xs = refl
+  accepted_history _ s opened xs = refl
 
 pub reply_accepted : (s : State) (c : Call) → accepted (reply s c) ≡ true
-reply_accepted s (declaring source date name) = refl
-reply_accepted s (opening source date name own) = refl
-reply_accepted s (asserting source date account amount commodity) = refl
-reply_accepted s (closing source date account) = refl
-reply_accepted s (beginning source date flag) = refl
-reply_accepted s (posting slip source account amount) = refl
 reply_accepted s (settling slip lent) = refl
-reply_accepted s (tearing slip) = refl
-reply_accepted s (writing_header lent) = refl
+reply_accepted s _ = refl
 
 -- Settlings.
 
@@ -212,7 +194,7 @@ settling_number o s slip lent (Some f) = refl
 
 settling_accepted : (o : Order) (s : State) (slip lent : ℕ) (r : Option Fault) → accepted (answered o s (settling slip lent) r).0 ≡ true → r ≡ None
 settling_accepted o s slip lent None e = refl
-settling_accepted o s slip lent (Some f) e = let z : ◌≡◌ {A = ℕ} 0 1 = cc in absurd (omega arith)
+settling_accepted o s slip lent (Some f) e = absurd (false≢true e)
 
 module _ (o : Order) (keeps : Keeps o) (s : State) (slip lent : ℕ) (opened : List Key) (sound : Sound opened s.books.table) where
   abbrev Whole : Option Draft → Option Fault
@@ -233,11 +215,11 @@ module _ (o : Order) (keeps : Keeps o) (s : State) (slip lent : ℕ) (opened : L
     by_first (Some x) w no_w e = e
 
     first_stays : (f w : Option Fault) → fault_number f ≡ Some n → fault_number (or_else f w) ≡ Some n
-    first_stays None w e = absurd (none_some n e)
+    first_stays None w e = absurd (none-some n e)
     first_stays (Some x) w e = e
 
     whole_from : (d : Option Draft) → fault_number (Whole d) ≡ Some n → DraftReaches o P s.books.table d
-    whole_from None e = absurd (none_some n e)
+    whole_from None e = absurd (none-some n e)
     whole_from (Some d) e =
         let whole = whole_draft_tests s lent d (draft_entries o s d) in
         to d.date d.postings (by_first (first_fault o d.date s.books.table d.postings) (at_line d.line (first_met whole))
@@ -260,7 +242,7 @@ module _ (o : Order) (keeps : Keeps o) (s : State) (slip lent : ℕ) (opened : L
     }
 
   draws_where : (b : Bool) (d : Option Draft) → DraftThere d → behind b d ≡ None → DraftDraws o s.books.table d
-  draws_where true d there e = absurd (none_some _ (sym e))
+  draws_where true d there e = absurd (none-some _ (sym e))
   draws_where false None there e = tt
   draws_where false (Some d) there e =
       draft_draws o keeps d.date d.postings s.books.table opened (all_some d.postings there) sound
@@ -279,15 +261,8 @@ module _ (o : Order) (keeps : Keeps o) (s : State) (slip lent : ℕ) (opened : L
 
 module _ (o : Order) (keeps : Keeps o) where
   if_settling : (c : Call) (s : State) (opened : List Key) (xs : List Settlement) → Good s opened xs → IfSettling o (history s opened xs) c (step o s c).0
-  if_settling (declaring source date name) s opened xs g = tt
-  if_settling (opening source date name own) s opened xs g = tt
-  if_settling (asserting source date account amount commodity) s opened xs g = tt
-  if_settling (closing source date account) s opened xs g = tt
-  if_settling (beginning source date flag) s opened xs g = tt
-  if_settling (posting slip source account amount) s opened xs g = tt
   if_settling (settling slip lent) s opened xs g = settling_so o keeps s slip lent opened g.books.sound g.draft xs
-  if_settling (tearing slip) s opened xs g = tt
-  if_settling (writing_header lent) s opened xs g = tt
+  if_settling _ s opened xs g = tt
 
   -- one call keeps the books, and leaves what the history says
   abbrev pub Kept : History → State → Type 0

@@ -1,9 +1,9 @@
 -- Lots bear the serials of their openings, stand in their order, have different keys, and none is empty.
-use Rattle.std.proofs.Common.{◌≡◌, ℕ, ◌+◌, ◌-◌, ◌<◌, ◌≤◌, Bool, true, false, cond, ◌||◌, leb, List, [], ◌∷◌, ◌++◌, length, sym, refl, ap, ◌∙◌, subst, arith, length-append}
+use Rattle.std.proofs.Common.{◌≡◌, ℕ, ◌+◌, ◌-◌, ◌<◌, ◌≤◌, Bool, true, false, cond, ◌||◌, leb, List, [], ◌∷◌, ◌++◌, length, sym, refl, ◌∙◌, subst, arith, length-append}
 use Rattle.std.specs.List.{AllByRecursion}
 use Rattle.std.proofs.lemmas.List.{append-nil, append_assoc, get_or_append_left, get_or_push}
 use Rattle.std.proofs.ByRecursion.{All-weaker, All-push, All-append, All-map}
-use Rattle.std.proofs.lemmas.Bool.{cond_both, cond-false, or_parts, leb-false, both_ways}
+use Rattle.std.proofs.lemmas.Bool.{false≢true, true≢false, cond_both, or_parts, leb-false, both_ways}
 use Rattle.lots.specs.declared.rows.Key.{Key}
 use Rattle.lots.specs.declared.rows.LotRow.{LotRow}
 use Rattle.lots.specs.Rows.{same_key, with_more, with_fewer}
@@ -19,10 +19,10 @@ use Rattle.stock.specs.Kept.{KeysDiffer}
 use Rattle.stock.proofs.Keeping.{key_same, key_itself}
 use Rattle.booking.specs.declared.posting.Posting.{Posting}
 use Rattle.booking.specs.declared.posting.PostingKind.{PostingKind}
-use Rattle.booking.specs.declared.posting.PostingKind.TheVariants.{Blank, Plain, Purchase, Reduction}
+use Rattle.booking.specs.declared.posting.PostingKind.TheVariants.{Purchase, Reduction}
 use Rattle.booking.specs.declared.entry.Entry.{Entry}
 use Rattle.booking.specs.declared.entry.EntryKind.{EntryKind}
-use Rattle.booking.specs.declared.entry.EntryKind.TheVariants.{PlainAmount, Unfilled, Filled, Bought, Drew}
+use Rattle.booking.specs.declared.entry.EntryKind.TheVariants.{Bought, Drew}
 use Rattle.booking.specs.Postings.{purchase_key, wanted_lots, table_after_kind, table_after_posting, entry, entries_of_kind, entries_of_posting}
 use Rattle.booking.specs.Booking.{table_after, entries_of}
 use Rattle.law.specs.Histories.{opened_by_kind, opened_by}
@@ -40,11 +40,8 @@ pub record Sound (opened : List Key) (t : Table) : Type 0 where
 
 -- What holds of each lot, and of each pair, after units came to one.
 
-pub false_true : {X : Type 0} → false ≡ true → X
-false_true e = let z : ◌≡◌ {A = ℕ} 0 1 = cc in absurd (omega arith)
-
 all_grown : (P : LotRow → Type 0) (k : Key) (n next : ℕ) → ((r : LotRow) → P r → P (with_more r n)) → (lots : List LotRow) → is_open k lots ≡ true → AllByRecursion P lots → AllByRecursion P (add_units k n next lots)
-all_grown P k n next grows [] e all = false_true e
+all_grown P k n next grows [] e all = absurd (false≢true e)
 all_grown P k n next grows (r ∷ rs) e all =
     by_bool (of_key k r) (λ (b : Bool). (b || is_open k rs) ≡ true → AllByRecursion P (cond b (with_more r n ∷ rs) (r ∷ add_units k n next rs)))
     (λ _ _. (grows r all.0, all.1))
@@ -54,7 +51,7 @@ all_grown P k n next grows (r ∷ rs) e all =
 -- a relation of lots that does not look at units
 pairs_grown : (R : LotRow → LotRow → Type 0) (k : Key) (n next : ℕ) → ((r s : LotRow) → R r s → R (with_more r n) s) → ((r s : LotRow) → R r s → R r (with_more s n))
     → (lots : List LotRow) → is_open k lots ≡ true → AllPairs R lots → AllPairs R (add_units k n next lots)
-pairs_grown R k n next first second [] e all = false_true e
+pairs_grown R k n next first second [] e all = absurd (false≢true e)
 pairs_grown R k n next first second (r ∷ rs) e all =
     by_bool (of_key k r) (λ (b : Bool). (b || is_open k rs) ≡ true → AllPairs R (cond b (with_more r n ∷ rs) (r ∷ add_units k n next rs)))
     (λ _ _. (All-weaker (R r) (R (with_more r n)) (first r) rs all.0, all.1))
@@ -83,7 +80,8 @@ pub added_new : (k : Key) (n next : ℕ) (lots : List LotRow) → is_open k lots
 added_new k n next [] e = refl
 added_new k n next (r ∷ rs) e =
     let p = or_parts (of_key k r) (is_open k rs) e in
-    ap (λ (xs : List LotRow). r ∷ xs) (added_new k n next rs p.1) ∙ sym (cond-false (of_key k r) (with_more r n ∷ rs) (r ∷ add_units k n next rs) p.0)
+    let ih = added_new k n next rs p.1 in
+    grind arith
 
 other_keys : (k : Key) (lots : List LotRow) → is_open k lots ≡ false → AllByRecursion (λ r. r.key ≡ k → ⊥) lots
 other_keys k [] e = tt
@@ -137,7 +135,7 @@ module _ (k : Key) (n : ℕ) (t : Table) (opened : List Key) (sound : Sound open
 
 -- the lot that a purchase comes to bears a serial of its key
 serial_there : (k : Key) (next : ℕ) (opened : List Key) (lots : List LotRow) → is_open k lots ≡ true → AllByRecursion (LotOfOpening opened) lots → SerialOfOpening opened (serial_for k next lots) k
-serial_there k next opened [] e all = false_true e
+serial_there k next opened [] e all = absurd (false≢true e)
 serial_there k next opened (r ∷ rs) e all =
     by_bool (of_key k r) (λ (b : Bool). of_key k r ≡ b → (b || is_open k rs) ≡ true → SerialOfOpening opened (cond b r.serial (serial_for k next rs)) k)
     (λ _ own _. subst (λ (j : Key). SerialOfOpening opened r.serial j) (key_same r.key k own) all.0)
@@ -147,8 +145,7 @@ serial_there k next opened (r ∷ rs) e all =
 serial_new : (k : Key) (next : ℕ) (lots : List LotRow) → is_open k lots ≡ false → serial_for k next lots ≡ next
 serial_new k next [] e = refl
 serial_new k next (r ∷ rs) e =
-    let p = or_parts (of_key k r) (is_open k rs) e in
-    cond-false (of_key k r) r.serial (serial_for k next rs) p.0 ∙ serial_new k next rs p.1
+    by_bool (of_key k r) (λ (b : Bool). (b || is_open k rs) ≡ false → cond b r.serial (serial_for k next rs) ≡ next) (λ _ f. absurd (true≢false f)) (λ _ f. serial_new k next rs f) e
 
 serial_bought : (k : Key) (t : Table) (opened : List Key) → Sound opened t → (b : Bool) → is_open k t.lots ≡ b → SerialOfOpening (opened ++ cond b [] (k ∷ [])) (serial_for k t.next t.lots) k
 serial_bought k t opened sound true e = opened_more opened [] (serial_for k t.next t.lots) k (serial_there k t.next opened t.lots e sound.serials)
@@ -158,17 +155,13 @@ serial_bought k t opened sound false e = next_opening opened k (serial_for k t.n
 
 -- a purchase has some units
 abbrev pub SomeUnits : PostingKind → Type 0
-SomeUnits Blank = Unit {0}
-SomeUnits (Plain amount commodity) = Unit {0}
 SomeUnits (Purchase units commodity cost date) = 1 ≤ units
-SomeUnits (Reduction units commodity cost date) = Unit {0}
+SomeUnits _ = Unit {0}
 
 same_openings : (opened : List Key) (t : Table) → Sound opened t → Sound (opened ++ []) t
 same_openings opened t s = subst (λ (xs : List Key). Sound xs t) (sym (append-nil opened)) s
 
 pub kind_sound : (o : Order) (day a : ℕ) (t : Table) (kind : PostingKind) (opened : List Key) → SomeUnits kind → Sound opened t → Sound (opened ++ opened_by_kind day a t kind) (table_after_kind o day a t kind)
-kind_sound o day a t Blank opened some s = same_openings opened t s
-kind_sound o day a t (Plain amount commodity) opened some s = same_openings opened t s
 kind_sound o day a t (Purchase n commodity cost date) opened some s =
     let k = purchase_key day a commodity cost date in
     bought_sound k n t opened s some (is_open k t.lots) refl
@@ -181,13 +174,12 @@ kind_sound o day a t (Reduction u commodity cost date) opened some s =
       differ = pairs_left (λ r s. r.key ≡ s.key → ⊥) g (λ r s ne. ne) (λ r s ne. ne) t.lots s.differ;
       some = all_left (λ r. 1 ≤ r.units) g (λ r m l. omega arith) t.lots s.some;
     })
+kind_sound o day a t _ opened some s = same_openings opened t s
 
 abbrev Bears : List Key → Entry → Type 0
 Bears opened e = KindBearsSerial opened e.kind
 
 kind_bears : (o : Order) (day line a : ℕ) (t : Table) (kind : PostingKind) (opened : List Key) → Sound opened t → AllByRecursion (Bears (opened ++ opened_by_kind day a t kind)) (entries_of_kind o day line a t kind)
-kind_bears o day line a t Blank opened s = (tt, tt)
-kind_bears o day line a t (Plain amount commodity) opened s = (tt, tt)
 kind_bears o day line a t (Purchase n commodity cost date) opened s =
     let k = purchase_key day a commodity cost date in
     (serial_bought k t opened s (is_open k t.lots) refl, tt)
@@ -197,16 +189,15 @@ kind_bears o day line a t (Reduction u commodity cost date) opened s =
     All-map (Bears (opened ++ [])) (λ d. entry line (Drew d)) (draws_of o w u t.lots)
     (all_draws (λ d. SerialOfOpening (opened ++ []) d.lot.serial d.lot.key) (o.before u) g t.lots
     (All-weaker (LotOfOpening opened) (λ r. (g r ≡ 0 → ⊥) → SerialOfOpening (opened ++ []) r.serial r.key) (λ r m _. opened_more opened [] r.serial r.key m) t.lots s.serials))
+kind_bears o day line a t _ opened s = (tt, tt)
 
 pub bears_more : (opened more : List Key) (es : List Entry) → AllByRecursion (Bears opened) es → AllByRecursion (Bears (opened ++ more)) es
 bears_more opened more es all = All-weaker (Bears opened) (Bears (opened ++ more)) (λ e. kinds e.kind) es all
   where
     kinds : (kind : EntryKind) → KindBearsSerial opened kind → KindBearsSerial (opened ++ more) kind
-    kinds (PlainAmount account amount commodity) m = tt
-    kinds (Unfilled account) m = tt
-    kinds (Filled account amount commodity) m = tt
     kinds (Bought key units serial) m = opened_more opened more serial key m
     kinds (Drew draw) m = opened_more opened more draw.lot.serial draw.lot.key m
+    kinds _ m = tt
 
 abbrev pub AllSome : List Posting → Type 0
 AllSome ps = AllByRecursion (λ p. SomeUnits p.kind) ps

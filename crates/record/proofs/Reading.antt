@@ -1,5 +1,5 @@
 -- Fields read back from a record.
-use Rattle.std.proofs.Common.{◌≡◌, ℕ, ◌+◌, ◌*◌, ◌/◌, ◌%◌, ◌^◌, ◌<◌, ◌≤◌, List, [], ◌∷◌, ◌++◌, length, take, drop, ℤ, sym, refl, ap, ◌∙◌, arith, w32, SFits, to_z, of_z}
+use Rattle.std.proofs.Common.{◌≡◌, ℕ, ◌+◌, ◌*◌, ◌/◌, ◌%◌, ◌^◌, ◌<◌, ◌≤◌, List, ◌∷◌, ◌++◌, length, take, drop, ℤ, sym, ap, ◌∙◌, arith, w32, SFits, to_z, of_z}
 use native.Mathlib.Nat.{div-div-eq-div-mul, mod-add-div}
 use mir.Facts.{Fits-of_z}
 use Rattle.std.proofs.lemmas.List.{drop_at, drop-drop, append_assoc, length-append}
@@ -8,13 +8,10 @@ use Rattle.record.specs.declared.header.Header.{Header}
 use Rattle.record.specs.declared.rows.Row.{Row}
 use Rattle.record.specs.Layout.{first_free, most_rows, le2, le4, row_bytes, rows_bytes, header_bytes}
 use Rattle.record.specs.Promises.{from_le, number_at, HeaderReads, RowReads, RowsRead, Sized, AllSized, SizedHeader}
-use Rattle.record.proofs.Written.{rows_bytes_length}
+use Rattle.record.proofs.Written.{rows_bytes_length, rows_bytes_append}
 
 le2_read : (n : ℕ) → n < 2 ^ 16 → from_le (le2 n) ≡ n
 le2_read n h = omega arith
-
-sum : (a b c d m k t n : ℕ) → a + 256 * m ≡ n → b + 256 * k ≡ m → c + 256 * t ≡ k → d ≡ t → from_le (a ∷ b ∷ c ∷ d ∷ []) ≡ n
-sum a b c d m k t n one two three four = omega arith
 
 le4_read : (n : ℕ) → n < 2 ^ 32 → from_le (le4 n) ≡ n
 le4_read n h =
@@ -22,7 +19,7 @@ le4_read n h =
     let two : n / 256 % 256 + 256 * (n / 65536) ≡ n / 256 = rw (← div-div-eq-div-mul n 256 256) (mod-add-div (n / 256) 256) in
     let three : n / 65536 % 256 + 256 * (n / 16777216) ≡ n / 65536 = rw (← div-div-eq-div-mul n 65536 256) (mod-add-div (n / 65536) 256) in
     let four : n / 16777216 % 256 ≡ n / 16777216 = omega arith in
-    sum (n % 256) (n / 256 % 256) (n / 65536 % 256) (n / 16777216 % 256) (n / 256) (n / 65536) (n / 16777216) n one two three four
+    omega arith
 
 signed_read : (z : ℤ) → SFits w32 z → to_z w32 (from_le (le4 (of_z w32 z))) ≡ z
 signed_read z h = ap (to_z w32) (le4_read (of_z w32 z) (Fits-of_z h).fits) ∙ to_z-of_z w32 z h
@@ -67,15 +64,9 @@ header_reads book tail written h is few s =
       next_serial = at_start book bytes 20 4 is ∙ le4_read h.next s.next;
     }
 
--- the bytes of rows around one of them
-rows_around : (before : List Row) (r : Row) (later : List Row) → rows_bytes (before ++ (r ∷ later)) ≡ rows_bytes before ++ (row_bytes r ++ rows_bytes later)
-rows_around [] r later = refl
-rows_around (x ∷ xs) r later =
-    ap (λ bs. row_bytes x ++ bs) (rows_around xs r later) ∙ sym (append_assoc (row_bytes x) (rows_bytes xs) (row_bytes r ++ rows_bytes later))
-
 pub rows_read : (written : ℕ) (rows : List Row) (front rest book : List ℕ) → book ≡ front ++ (rows_bytes rows ++ rest) → length front ≡ first_free written → AllSized rows
     → RowsRead book written rows
 rows_read written rows front rest book is size sized before r later split =
-    let around : book ≡ (front ++ rows_bytes before) ++ (row_bytes r ++ (rows_bytes later ++ rest)) = is ∙ rw (split, rows_around before r later) (simp append_assoc) in
+    let around : book ≡ (front ++ rows_bytes before) ++ (row_bytes r ++ (rows_bytes later ++ rest)) = is ∙ rw (split, rows_bytes_append before (r ∷ later)) (simp append_assoc) in
     let long : length (front ++ rows_bytes before) ≡ first_free (written + length before) = omega (arith, length-append front (rows_bytes before), rows_bytes_length before) in
     row_reads book (front ++ rows_bytes before) (rows_bytes later ++ rest) (first_free (written + length before)) r around long (sized before r later split)

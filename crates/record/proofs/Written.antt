@@ -1,11 +1,11 @@
 -- Bytes written behind one another, and over a part of a record.
-use Rattle.std.proofs.Common.{◌≡◌, ℕ, ◌+◌, ◌-◌, ◌*◌, ◌<◌, List, [], ◌∷◌, ◌++◌, length, get_or, take, drop, pos, sym, refl, ap, ◌∙◌, subst, arith}
+use Rattle.std.proofs.Common.{◌≡◌, ℕ, ◌+◌, ◌*◌, ◌<◌, List, [], ◌∷◌, ◌++◌, length, get_or, take, drop, pos, sym, refl, ap, ◌∙◌, subst, arith}
 use borrow.Rule.Slice.PartMut.{put_mid}
-use Rattle.std.proofs.lemmas.List.{take_more, append_assoc, append-nil, length-append, length-take-le, take_at, drop_at, drop-drop, take_rest, drop_all, length-drop, get_or_at}
+use Rattle.std.proofs.lemmas.List.{take_more, append_assoc, length-append, length-take-le, take_at, drop_at, drop-drop, get_or_at}
 use Rattle.values.specs.declared.flag.Flag.TheVariants.{Complete}
 use Rattle.record.specs.declared.rows.RowKind.TheVariants.{Plain}
 use Rattle.record.specs.declared.rows.Row.{Row}
-use Rattle.record.specs.Layout.{row_length, row_bytes, rows_bytes, write_at}
+use Rattle.record.specs.Layout.{row_length, row_bytes, rows_bytes}
 use Rattle.record.specs.Promises.{Sized, AllSized}
 
 abbrev pub no_row : Row
@@ -15,9 +15,9 @@ pub rows_bytes_length : (rows : List Row) → length (rows_bytes rows) ≡ row_l
 rows_bytes_length [] = refl
 rows_bytes_length (r ∷ rs) = let ih = rows_bytes_length rs in omega arith
 
-pub rows_bytes_push : (rows : List Row) (r : Row) → rows_bytes (rows ++ (r ∷ [])) ≡ rows_bytes rows ++ row_bytes r
-rows_bytes_push [] r = refl
-rows_bytes_push (x ∷ xs) r = ap (λ bs. row_bytes x ++ bs) (rows_bytes_push xs r) ∙ sym (append_assoc (row_bytes x) (rows_bytes xs) (row_bytes r))
+pub rows_bytes_append : (xs ys : List Row) → rows_bytes (xs ++ ys) ≡ rows_bytes xs ++ rows_bytes ys
+rows_bytes_append [] ys = refl
+rows_bytes_append (x ∷ xs) ys = ap (λ bs. row_bytes x ++ bs) (rows_bytes_append xs ys) ∙ sym (append_assoc (row_bytes x) (rows_bytes xs) (rows_bytes ys))
 
 -- `new` written over the k bytes behind `front`
 write_more : (front new d out : List ℕ) (n k m : ℕ) → length front ≡ n → k ≡ m → out ≡ front ++ drop n d → put_mid n k out new ≡ (front ++ new) ++ drop (n + m) d
@@ -29,17 +29,9 @@ pub rows_more : (rows : List Row) (i k : ℕ) (d out new : List ℕ) → i < len
     → out ≡ rows_bytes (take i rows) ++ drop (row_length * i) d → put_mid (row_length * i) k out new ≡ rows_bytes (take (i + 1) rows) ++ drop (row_length * (i + 1)) d
 rows_more rows i k d out new h width is was =
     let size : length (rows_bytes (take i rows)) ≡ row_length * i = rows_bytes_length (take i rows) ∙ ap (λ n. row_length * n) (length-take-le i rows (omega arith)) in
-    let next : rows_bytes (take (i + 1) rows) ≡ rows_bytes (take i rows) ++ row_bytes (get_or rows i no_row) = ap rows_bytes (take_more rows i no_row h) ∙ rows_bytes_push (take i rows) (get_or rows i no_row) in
+    let next : rows_bytes (take (i + 1) rows) ≡ rows_bytes (take i rows) ++ row_bytes (get_or rows i no_row) = ap rows_bytes (take_more rows i no_row h) ∙ rows_bytes_append (take i rows) (get_or rows i no_row ∷ []) in
     let on : row_length * (i + 1) ≡ row_length * i + row_length = omega arith in
     write_more (rows_bytes (take i rows)) new d out (row_length * i) k row_length size width was ∙ rw (is, next, on)
-
--- rows written into the part of a record from an offset on
-pub rows_written : (at k : ℕ) (rows : List Row) (d new part : List ℕ) → k ≡ length d - at → part ≡ take k (drop at d)
-    → new ≡ rows_bytes rows ++ drop (row_length * length rows) part → put_mid at k d new ≡ write_at d at (rows_bytes rows)
-rows_written at k rows d new part size is written =
-    let all : take k (drop at d) ≡ drop at d = rw size (take_rest d at) in
-    let past : drop k (drop at d) ≡ [] = drop_all k (drop at d) (simp length-drop (omega arith)) in
-    rw (written, is, all, past, append-nil, drop-drop, rows_bytes_length rows)
 
 -- rows that keep to their widths one by one
 pub all_sized : (rows : List Row) → ((k : ℕ) → k < length rows → Sized (get_or rows k no_row)) → AllSized rows

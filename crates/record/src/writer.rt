@@ -71,6 +71,7 @@ fn write_fields(out: &mut [u8], rows: u32, header: Header)
     put(out, 20, header.next.to_le_bytes());
 }
 
+#[tactic(auto, unfolding(crate::specs::Layout::header_after))]
 pub fn put_header(book: &mut [u8], rows: u32, header: Header)
     requires room { header_length ≤ length book.old }
     requires few { rows ≤ most_rows }

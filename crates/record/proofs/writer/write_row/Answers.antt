@@ -5,14 +5,11 @@ use Rattle.record.specs.Layout.{row_bytes, row_length}
 use Rattle.record.proofs.writer.write_row.Goals as goal
 
 -- each field stands behind those before it, so the last one ends the row
-pub returns : goal.returns
-returns c =
+pub returns-clause-bytes : goal.returns-clause-bytes
+returns-clause-bytes c =
     let fits : SFits w32 c.args.row.now.units = search rules in
     let all : take row_length c.put-10.new.out ≡ row_bytes c.args.row.now =
     rw (c.put-10.ensures, c.put-9.ensures, c.put-8.ensures, c.put-7.ensures, c.put-6.ensures, c.put-5.ensures, c.put-4.ensures, c.put-3.ensures, c.put-2.ensures, c.put.ensures)
     (rw (c.to_le_bytes.ensures, c.to_le_bytes-2.ensures, c.to_le_bytes-3.ensures, c.to_le_bytes-4.ensures, c.to_le_bytes-5.ensures, c.to_le_bytes-6.ensures, c.to_le_bytes-7.ensures, c.to_le_bytes-8.ensures)
     (rw (c.lot-lot.ensures, c.number.ensures, c.number-2.ensures) (simp to_z-of_z))) in
-    record {
-      bytes = sym (take_all row_length c.put-10.new.out (omega arith)) ∙ all;
-      sized = search rules;
-    }
+    sym (take_all row_length c.put-10.new.out (omega arith)) ∙ all

@@ -1,5 +1,4 @@
-use Rattle.std.proofs.Common.{◌≡◌, length, take, arith, below_more}
-use Rattle.std.proofs.lemmas.List.{take_all}
+use Rattle.std.proofs.Common.{arith, below_more}
 use Rattle.record.proofs.Written.{rows_more, all_sized}
 use Rattle.record.proofs.writer.write_rows.Goals as goal
 
@@ -9,11 +8,5 @@ loop-i-preserved c = (
   below_more _ _ c.loop-i.invariant.1 c.write_row.ensures.sized,
 )
 
-pub returns : goal.returns
-returns c =
-    let all : take c.loop-i.i c.args.rows.now ≡ c.args.rows.now = take_all _ _ c.loop-i-test.false in
-    let end : c.loop-i.i ≡ length c.args.rows.now = omega arith in
-    record {
-      bytes = rw (c.loop-i.invariant.0, all, end);
-      sized = all_sized c.args.rows.now (λ k h. c.loop-i.invariant.1 k (omega arith));
-    }
+pub returns-clause-sized : goal.returns-clause-sized
+returns-clause-sized c = all_sized c.args.rows.now (λ k h. c.loop-i.invariant.1 k (omega arith))

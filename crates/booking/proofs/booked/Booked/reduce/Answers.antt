@@ -1,12 +1,12 @@
-use Rattle.std.proofs.Common.{List, ◌++◌, length, Ok, ap, ◌∙◌, subst, sym, arith}
+use Rattle.std.proofs.Common.{List, ◌++◌, length, ap, ◌∙◌, subst, sym, arith}
 use Rattle.std.specs.List.{list_all}
 use Rattle.matching.specs.declared.wanted.Draw.{Draw}
 use Rattle.stock.specs.Tables.{Table}
 use Rattle.booking.specs.declared.entry.Entry.{Entry}
 use Rattle.booking.specs.Postings.{draw_entries}
 use Rattle.booking.specs.Ranges.{draw_in_range}
-use Rattle.booking.specs.Stages.{book_reduction, Grows, HasRoom}
-use Rattle.booking.proofs.Stages.{reduction_accepted, reduction_grows, draws_in_ranges, draws_fit}
+use Rattle.booking.specs.Stages.{Grows, HasRoom}
+use Rattle.booking.proofs.Stages.{reduction_grows, draws_in_ranges, draws_fit}
 use Rattle.booking.proofs.booked.Booked.reduce.Goals as goal
 
 pub enter_draws-requires : goal.enter_draws-requires
@@ -28,8 +28,8 @@ enter_draws-requires g c =
       ranged = ap (list_all draw_in_range) same ∙ draws_in_ranges o keeps c.args.line x.wanted x.units b kept t' ds e;
     }
 
-pub returns : goal.returns
-returns g c =
+pub returns-clause-grows : goal.returns-clause-grows
+returns-clause-grows g c =
     let x = c.args.asked.now in
     let o = g.P.Policy.order x.policy.now in
     let keeps = g.met.P.Policy.keeps x.policy.now in
@@ -39,7 +39,4 @@ returns g c =
     let t' = c.reduce.new.self in
     let e = c.in_ok-draws.ensures.defined in
     let listed = c.enter_draws.ensures ∙ ap {B = Table × List Entry} (λ (xs : List Draw). (t', b.1 ++ draw_entries c.args.line xs)) c.as_slice.ensures.items in
-    record {
-      defined = ap Ok listed ∙ reduction_accepted o keeps c.args.line x.wanted x.units b kept t' ds e ∙ ap (book_reduction o c.args.line x.wanted x.units) c.self.view_is;
-      grows = subst (λ (a : Table × List Entry). Grows a c.enter_draws.new.self) c.self.view_is (subst (Grows b) (sym listed) (reduction_grows o keeps c.args.line x.wanted x.units b kept t' ds e));
-    }
+    subst (λ (a : Table × List Entry). Grows a c.enter_draws.new.self) c.self.view_is (subst (Grows b) (sym listed) (reduction_grows o keeps c.args.line x.wanted x.units b kept t' ds e))

@@ -1,5 +1,5 @@
 use Rattle.std.proofs.Common.{ℕ, ◌≤◌, List, length, drop, replicate, ap, ◌∙◌, arith, length-append}
-use Rattle.std.proofs.lemmas.List.{take_at, length-drop, drop-replicate}
+use Rattle.std.proofs.lemmas.List.{length-drop, drop-replicate}
 use Rattle.std.proofs.lemmas.Slice.{drop-append-drop}
 use Rattle.books.proofs.name.Name.new.Goals as goal
 
@@ -15,8 +15,3 @@ invariant_of-result c =
         drop-append-drop n places c.copy_from_slice.new.self n (omega arith) same ∙ drop-replicate n 48 0,
       ),
     )
-
-pub returns : goal.returns
-returns c =
-    let same = c.copy_from_slice.ensures.after in
-    take_at c.copy_from_slice.new.self _ (length c.front-kept.result.now) (ap length same) ∙ same ∙ c.front-kept.ensures.value
