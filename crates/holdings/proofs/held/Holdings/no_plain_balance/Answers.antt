@@ -1,8 +1,5 @@
-use Rattle.std.proofs.Common.{◌≡◌, ℕ, suc, ◌+◌, ◌-◌, sym, ap, ◌∙◌, arith}
-use Rattle.std.proofs.lemmas.Bool.{and_from}
-use Rattle.booking.specs.Weighing.{is_zero}
-use Rattle.books.specs.Holdings.{plain_balance, no_plain_balance}
-use Rattle.holdings.proofs.Empty.{not_empty_at}
+use Rattle.std.proofs.Common.{◌≡◌, ◌-◌, sym, ap, ◌∙◌, arith}
+use Rattle.books.specs.Holdings.{no_plain_balance}
 use Rattle.holdings.proofs.held.Holdings.no_plain_balance.Goals as goal
 
 pub returns : goal.returns
