@@ -46,12 +46,6 @@ impl Holdings {
         }
     }
 
-    pub fn balances(&self) -> &Balances
-        ensures { result.now ≡ self.now.balances }
-    {
-        &self.balances
-    }
-
     pub fn lots(&self) -> &LotTable
         ensures { result.now ≡ self.now.table }
     {

@@ -33,14 +33,14 @@ pub const FEBRUARY: Key = Key {
     date: 20240201,
 };
 
-pub fn euro(number: u32) -> Cost {
+pub(crate) fn euro(number: u32) -> Cost {
     Cost {
         number,
         commodity: 1,
     }
 }
 
-pub fn part(cost: u32, date: u32) -> Key {
+pub(crate) fn part(cost: u32, date: u32) -> Key {
     Key {
         account: 1,
         commodity: 2,
@@ -71,20 +71,20 @@ pub struct Shelf {
 }
 
 impl Shelf {
-    pub fn new() -> Shelf {
+    pub(crate) fn new() -> Shelf {
         Shelf {
             table: LotTable::new(),
         }
     }
 
     // A second shelf with the same lots.
-    pub fn duplicate(&self) -> Shelf {
+    pub(crate) fn duplicate(&self) -> Shelf {
         Shelf {
             table: self.table.duplicate(),
         }
     }
 
-    pub fn buy(&mut self, key: Key, units: u32) -> Answer {
+    pub(crate) fn buy(&mut self, key: Key, units: u32) -> Answer {
         let Some(lot) = Lot::new(LotRow {
             key,
             units,
@@ -98,7 +98,7 @@ impl Shelf {
         }
     }
 
-    pub fn sell<P: Policy>(&mut self, policy: &P, wanted: Wanted, units: u32) -> Answer {
+    pub(crate) fn sell<P: Policy>(&mut self, policy: &P, wanted: Wanted, units: u32) -> Answer {
         match self.table.reduce(&Reduction {
             policy,
             wanted,
@@ -113,7 +113,7 @@ impl Shelf {
     }
 
     // The units of the open lot of a serial.
-    pub fn look(&self, serial: u32) -> Answer {
+    pub(crate) fn look(&self, serial: u32) -> Answer {
         self.table
             .lot(serial)
             .map_or(Answer::NoLot, |row| Answer::Units(row.units))
