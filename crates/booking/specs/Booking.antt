@@ -2,6 +2,7 @@
 use Rattle.std.specs.Prelude.{ℕ, List, [], ◌∷◌, ◌++◌, Some, None, Option}
 use Rattle.refusal.specs.declared.Refusal.{Refusal}
 use Rattle.refusal.specs.declared.Fault.{Fault}
+use Rattle.refusal.specs.Faults.{fault_at}
 use Rattle.lots.specs.Orders.{Order}
 use Rattle.stock.specs.Tables.{Table}
 use Rattle.booking.specs.declared.posting.Posting.{Posting}
@@ -17,10 +18,6 @@ table_after o day t (p ∷ ps) = table_after o day (table_after_posting o day t 
 abbrev pub entries_of : Order → ℕ → Table → List Posting → List Entry
 entries_of o day t [] = []
 entries_of o day t (p ∷ ps) = entries_of_posting o day t p ++ entries_of o day (table_after_posting o day t p) ps
-
--- a refusal outside the text of a line
-abbrev pub fault_at : ℕ → Refusal → Fault
-fault_at line refusal = record { refusal = refusal; line = line; place = 0 }
 
 -- a refusal bears a line
 abbrev pub at_line : ℕ → Option Refusal → Option Fault

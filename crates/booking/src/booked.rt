@@ -176,10 +176,6 @@ impl Booked {
         ensures grows { Grows self.old self.new }
     {
         self.book_kind(policy, day, posting)
-            .map_err(|refusal| Fault {
-                refusal,
-                line: posting.line,
-                place: 0,
-            })
+            .map_err(|refusal| refusal.on(posting.line))
     }
 }

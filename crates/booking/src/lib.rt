@@ -5,6 +5,7 @@ pub mod booked;
 pub mod draft;
 pub mod entries;
 pub mod entry;
+pub mod limits;
 pub mod posting;
 pub mod postings;
 pub mod ranged;

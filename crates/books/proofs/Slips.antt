@@ -7,7 +7,7 @@ use Rattle.refusal.specs.declared.Fault.{Fault}
 use Rattle.values.specs.declared.flag.Flag.{Flag}
 use Rattle.lots.specs.Orders.{Order}
 use Rattle.booking.specs.declared.posting.Posting.{Posting}
-use Rattle.booking.specs.Booking.{fault_at}
+use Rattle.refusal.specs.Faults.{fault_at}
 use Rattle.books.specs.declared.outcome.Outcome.TheVariants.{Begun, Done}
 use Rattle.booking.specs.declared.draft.Draft.{Draft}
 use Rattle.books.specs.States.{State}

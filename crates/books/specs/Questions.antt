@@ -5,7 +5,7 @@ use Rattle.refusal.specs.declared.Fault.{Fault}
 use Rattle.refusal.specs.declared.Refusal.TheVariants.{NothingThere}
 use Rattle.lots.specs.declared.rows.LotRow.{LotRow}
 use Rattle.stock.specs.Tables.{lot_of_serial}
-use Rattle.booking.specs.Booking.{fault_at}
+use Rattle.refusal.specs.Faults.{fault_at}
 use Rattle.books.specs.declared.outcome.Counts.{Counts}
 use Rattle.books.specs.States.{State}
 use Rattle.books.specs.Conditions.{nothing_there}

@@ -14,7 +14,8 @@ use Rattle.booking.specs.declared.posting.PostingKind.{PostingKind}
 use Rattle.booking.specs.declared.posting.PostingKind.TheVariants.{Blank, Plain, Purchase, Reduction}
 use Rattle.booking.specs.declared.entry.Entry.{Entry}
 use Rattle.booking.specs.Postings.{purchase_key, wanted_lots, table_after_posting}
-use Rattle.booking.specs.Booking.{entries_of, fault_at}
+use Rattle.refusal.specs.Faults.{fault_at}
+use Rattle.booking.specs.Booking.{entries_of}
 use Rattle.booking.specs.Weighing.{blank_account}
 use Rattle.booking.specs.Balances.{weighing_tests}
 use Rattle.booking.specs.declared.draft.Draft.{Draft}

@@ -11,7 +11,8 @@ use Rattle.matching.proofs.Sums.{by_bool}
 use Rattle.stock.specs.Tables.{Table}
 use Rattle.record.specs.declared.rows.Row.{Row}
 use Rattle.record.specs.Layout.{header_length, first_free, header_bytes, rows_bytes}
-use Rattle.booking.specs.Booking.{at_line, first_fault, fault_at}
+use Rattle.refusal.specs.Faults.{fault_at}
+use Rattle.booking.specs.Booking.{at_line, first_fault}
 use Rattle.booking.specs.Balances.{first_met}
 use Rattle.booking.specs.Rows.{row_of, rows_of}
 use Rattle.booking.specs.declared.draft.Draft.{Draft}

@@ -18,7 +18,8 @@ use Rattle.stock.specs.Tables.{Table}
 use Rattle.booking.specs.declared.posting.Posting.{Posting}
 use Rattle.booking.specs.declared.posting.PostingKind.{PostingKind}
 use Rattle.booking.specs.declared.entry.Entry.{Entry}
-use Rattle.booking.specs.Booking.{entries_of, at_line, or_else, first_fault, fault_at}
+use Rattle.refusal.specs.Faults.{fault_at}
+use Rattle.booking.specs.Booking.{entries_of, at_line, or_else, first_fault}
 use Rattle.booking.specs.Weighing.{kind_weight, weight_sum, unbalanced_in, is_empty, has_blank, blank_account, blank_cannot_be_filled, complete}
 use Rattle.booking.specs.Balances.{first_met}
 use Rattle.books.specs.declared.outcome.Outcome.{Outcome}

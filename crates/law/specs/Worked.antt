@@ -7,7 +7,7 @@ use Rattle.lots.specs.declared.rows.LotRow.{LotRow}
 use Rattle.lots.specs.Orders.{fifo, whole_lot}
 use Rattle.booking.specs.declared.entry.EntryKind.TheVariants.{PlainAmount, Filled, Bought, Drew}
 use Rattle.booking.specs.Postings.{entry}
-use Rattle.booking.specs.Booking.{fault_at}
+use Rattle.refusal.specs.Faults.{fault_at}
 use Rattle.books.specs.declared.outcome.Outcome.{Outcome}
 use Rattle.books.specs.declared.outcome.Outcome.TheVariants.{Declared, Opened, Begun, Settled, Done, Refused}
 use Rattle.books.specs.States.{empty_ledger}

@@ -6,7 +6,8 @@ use Rattle.refusal.specs.declared.Refusal.TheVariants.{BadAccountName, AccountOp
 use Rattle.refusal.specs.declared.Fault.{Fault}
 use Rattle.lots.specs.Orders.{Order}
 use Rattle.booking.specs.Balances.{first_met}
-use Rattle.booking.specs.Booking.{fault_at, at_line}
+use Rattle.refusal.specs.Faults.{fault_at}
+use Rattle.booking.specs.Booking.{at_line}
 use Rattle.booking.specs.Stages.{unless}
 use Rattle.books.specs.declared.outcome.Outcome.{Outcome}
 use Rattle.books.specs.declared.outcome.Outcome.TheVariants.{Refused}

@@ -11,7 +11,7 @@ ghost use Rattle.ledger.specs.Answers.{outcome_of, outcome_with_slip, GivesBack}
 ghost use Rattle.ledger.specs.Kept.{in_state};
 
 use crate::Ledger;
-use crate::fault::{fault_at, reported};
+use crate::fault::reported;
 use crate::rank::Rank;
 use crate::slip::Slip;
 use booking::draft::Draft;
@@ -60,7 +60,7 @@ impl<P: Policy> Ledger<P> {
         ensures slip { GivesBack slip result }
     {
         if self.draft.is_none() || slip.number != self.transactions + 1 {
-            return Err((slip, fault_at(0, Refusal::NoSuchDraft)));
+            return Err((slip, Refusal::NoSuchDraft.on(0)));
         }
         let Slip { number: _ } = slip;
         self.draft = None;

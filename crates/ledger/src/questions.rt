@@ -5,7 +5,6 @@ ghost use Rattle.books.specs.Refusals.{first_fault_met};
 ghost use Rattle.books.specs.Questions.{answer_unless, question_tests, holding_of, plain_balance_of, counts_of, lot_of};
 
 use crate::Ledger;
-use crate::fault::fault_at;
 use books::outcome::Counts;
 use lots::policy::Policy;
 use lots::rows::LotRow;
@@ -26,7 +25,7 @@ impl<P: Policy> Ledger<P> {
         if self.has(account, commodity) {
             Ok(())
         } else {
-            Err(fault_at(0, Refusal::NothingThere))
+            Err(Refusal::NothingThere.on(0))
         }
     }
 
@@ -65,6 +64,6 @@ impl<P: Policy> Ledger<P> {
         self.holdings
             .lots()
             .lot(serial)
-            .ok_or(fault_at(0, Refusal::NothingThere))
+            .ok_or(Refusal::NothingThere.on(0))
     }
 }

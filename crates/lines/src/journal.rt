@@ -7,6 +7,9 @@ ghost use Rattle.lines.specs.Journals.{cut_said, first_line, lines_by};
 use byte_text::{ByteClass, after, front, run_of};
 use refusal::{Fault, Refusal};
 
+// The most bytes of a journal.
+pub const MOST_BYTES: usize = 60_000;
+
 // A line without its end, and what stands behind that.
 #[derive(Clone, Copy)]
 pub struct LineCut<'a> {
@@ -14,16 +17,12 @@ pub struct LineCut<'a> {
     pub rest: &'a [u8],
 }
 
-// A journal above 60,000 bytes is refused as a whole, and nothing of it is read.
+// A longer journal is refused as a whole, and nothing of it is read.
 pub fn check_journal(journal: &[u8]) -> Result<(), Fault>
     ensures { result ≡ journal_fault journal.now }
 {
-    if journal.len() > 60_000 {
-        return Err(Fault {
-            refusal: Refusal::WrongByte,
-            line: 0,
-            place: 0,
-        });
+    if journal.len() > MOST_BYTES {
+        return Err(Refusal::WrongByte.on(0));
     }
     Ok(())
 }

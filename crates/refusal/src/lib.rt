@@ -3,6 +3,7 @@
 
 ghost use Rattle.std.specs.Prelude.{◌≡◌};
 ghost use Rattle.refusal.specs.Table.{number_of, layer_of, name_of, Alone};
+ghost use Rattle.refusal.specs.Faults.{fault_at};
 
 use std::fmt;
 
@@ -18,7 +19,7 @@ pub enum Layer {
 }
 
 // In the order of the list: of several that a call meets, the one higher up comes back (docs/REFUSALS.md).
-#[derive(Clone, Copy, PartialEq, Eq, Debug)]
+#[derive(Clone, Copy, PartialEq, Eq, PartialOrd, Ord, Debug)]
 pub enum Refusal {
     DraftUnderWay = 1,
     NoSuchDraft = 2,
@@ -70,6 +71,17 @@ impl Refusal {
         ensures alone { Alone self }
     {
         self as u8
+    }
+
+    // The fault that it is in a line of this number, where no place in the line is at fault.
+    pub fn on(self, line: u32) -> Fault
+        ensures { result ≡ fault_at line self }
+    {
+        Fault {
+            refusal: self,
+            line,
+            place: 0,
+        }
     }
 
     pub fn layer(self) -> Layer

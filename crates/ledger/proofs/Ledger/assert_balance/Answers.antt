@@ -3,7 +3,7 @@ use Rattle.std.proofs.lemmas.Int.{to_z-of_z}
 use Rattle.std.proofs.lemmas.Result.{err_from_is_err_and}
 use Rattle.std.specs.Result.{result_map_both}
 use Rattle.booking.specs.Balances.{first_met}
-use Rattle.booking.specs.Booking.{fault_at}
+use Rattle.refusal.specs.Faults.{fault_at}
 use Rattle.booking.specs.Stages.{unless}
 use Rattle.books.specs.Calls.{asserting}
 use Rattle.books.specs.declared.outcome.Outcome.TheVariants.{Done}

@@ -1,7 +1,7 @@
 use Rattle.std.proofs.Common.{ℕ, Err, refl, ap, ◌∙◌}
 use Rattle.std.proofs.lemmas.Result.{err_from_is_err_and}
 use Rattle.std.specs.Result.{result_map_both}
-use Rattle.booking.specs.Booking.{fault_at}
+use Rattle.refusal.specs.Faults.{fault_at}
 use Rattle.books.specs.Calls.{closing}
 use Rattle.books.specs.Changes.{with_names, with_account_closed}
 use Rattle.books.specs.Lookups.{open_account, number_or_0}

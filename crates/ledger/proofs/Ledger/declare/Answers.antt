@@ -1,7 +1,7 @@
 use Rattle.std.proofs.Common.{Err, refl, ap, ◌∙◌}
 use Rattle.std.proofs.lemmas.Result.{err_from_is_err_and}
 use Rattle.std.specs.Result.{result_map_both}
-use Rattle.booking.specs.Booking.{fault_at}
+use Rattle.refusal.specs.Faults.{fault_at}
 use Rattle.books.specs.Calls.{declaring}
 use Rattle.books.specs.declared.outcome.Outcome.TheVariants.{Declared}
 use Rattle.ledger.specs.Answers.{outcome_of}

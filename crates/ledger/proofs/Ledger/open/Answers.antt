@@ -1,7 +1,7 @@
 use Rattle.std.proofs.Common.{◌≡◌, ℕ, List, Some, None, Option, Bor, Err, refl, ap, ◌∙◌, option_map}
 use Rattle.std.proofs.lemmas.Result.{err_from_is_err_and}
 use Rattle.std.specs.Result.{result_map_both}
-use Rattle.booking.specs.Booking.{fault_at}
+use Rattle.refusal.specs.Faults.{fault_at}
 use Rattle.books.specs.Calls.{opening}
 use Rattle.books.specs.Changes.{with_names}
 use Rattle.books.specs.States.{Names}
