@@ -3,9 +3,7 @@ ghost use Rattle.std.specs.Prelude.{◌≡◌, take};
 
 use byte_text::front;
 use std::marker::Model;
-
-// The most bytes of a name. A text of a name is never longer.
-pub const LONGEST_NAME: usize = 48;
+use values::names::LONGEST_NAME;
 
 // The name is the first `len` bytes; those behind are 0.
 #[derive(Clone, Copy)]

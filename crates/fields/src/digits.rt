@@ -8,7 +8,7 @@ pub(crate) fn read_digits(text: &[u8]) -> Option<u32>
     ensures value { result ≡ decimal text.now }
     ensures bound { IfSome result (λ n. n < 10 ^ length text.now) }
 {
-    // a loop and no fold: that there is room for each digit hangs on how many were read
+    // no `try_fold`: that there is room for each digit hangs on how many were read, which its closure is not told
     let mut n: u32 = 0;
     for b in text {
         n = n * 10 + char::from(*b).to_digit(10)?;

@@ -1,4 +1,5 @@
-// Names of commodities and accounts, as fields of a line.
+// Names of commodities and accounts, as fields of a line. Each reader is one chain, and says of its own names when it
+// accepts: one that takes the test and the fault would have to be told what the test decides, and come out longer.
 ghost use Rattle.std.specs.Prelude.{◌≡◌, MatchResult};
 ghost use Rattle.values.specs.Spelling.{IsCommodityName, IsAccountName};
 ghost use Rattle.fields.specs.Results.{map_ok};

@@ -92,7 +92,8 @@ fn read_transaction<'a>(
     Ok(Directive::Transaction { date, flag, text })
 }
 
-// The word behind a date.
+// The word behind a date. It stands between the bytes and what is read: of one `match` on the bytes, with the readers as its
+// arms, the proof of the last arm did not close.
 #[derive(Clone, Copy)]
 enum Keyword {
     Commodity,
@@ -157,9 +158,7 @@ fn read_method<'a>(mut line: Cursor<'a>) -> Result<Directive<'a>, LineFault>
     ensures { map_ok said result ≡ method_from line.entry.bytes.now line.entry.at }
 {
     let value = line.next_quoted()?;
-    let Some(method) = method_of(value.text) else {
-        return Err(LineFault::Form(value.place));
-    };
+    let method = method_of(value.text).ok_or(LineFault::Form(value.place))?;
     line.read_end()?;
     Ok(Directive::BookingMethod(method))
 }

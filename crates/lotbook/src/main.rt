@@ -2,48 +2,75 @@
 #![tactic(auto)]
 
 use lines::directive::Directive;
-use lines::journal::{check_journal, split_line};
+use lines::journal::{MOST_BYTES, check_journal, split_line};
 use lines::line::read_line;
 use listing::Listed;
-use refusal::Fault;
+use refusal::{Fault, Refusal};
 use std::alloc::{AllocError, Global};
 use std::collections::BTreeMap;
+use std::fmt;
 use std::fmt::Write;
 use std::io::Read;
 
-// The longest journal.
-const JOURNAL_BYTES: u64 = 60_000;
-
 // What a line can say, in the order in which the program counts it up.
-const KINDS: [&str; 8] = [
-    "blank",
-    "option",
-    "commodity",
-    "open",
-    "close",
-    "balance",
-    "transaction",
-    "posting",
+#[derive(Clone, Copy, PartialEq, Eq, PartialOrd, Ord)]
+enum Kind {
+    Blank,
+    BookingMethod,
+    Commodity,
+    Open,
+    Close,
+    Balance,
+    Transaction,
+    Posting,
+}
+
+const KINDS: [Kind; 8] = [
+    Kind::Blank,
+    Kind::BookingMethod,
+    Kind::Commodity,
+    Kind::Open,
+    Kind::Close,
+    Kind::Balance,
+    Kind::Transaction,
+    Kind::Posting,
 ];
 
-fn kind_of(directive: Directive<'_>) -> &'static str {
-    match directive {
-        Directive::BookingMethod(_) => "option",
-        Directive::Commodity { .. } => "commodity",
-        Directive::Open { .. } => "open",
-        Directive::Close { .. } => "close",
-        Directive::Balance { .. } => "balance",
-        Directive::Transaction { .. } => "transaction",
-        Directive::Posting(_) => "posting",
+impl From<Directive<'_>> for Kind {
+    fn from(directive: Directive<'_>) -> Kind {
+        match directive {
+            Directive::BookingMethod(_) => Kind::BookingMethod,
+            Directive::Commodity { .. } => Kind::Commodity,
+            Directive::Open { .. } => Kind::Open,
+            Directive::Close { .. } => Kind::Close,
+            Directive::Balance { .. } => Kind::Balance,
+            Directive::Transaction { .. } => Kind::Transaction,
+            Directive::Posting(_) => Kind::Posting,
+        }
     }
 }
 
-// How many lines were read, by what they say, and how many refusals, by number.
+impl fmt::Display for Kind {
+    fn fmt<W: fmt::Write>(&self, f: &mut fmt::Formatter<W>) -> fmt::Result {
+        f.write_str(match self {
+            Kind::Blank => "blank",
+            Kind::BookingMethod => "option",
+            Kind::Commodity => "commodity",
+            Kind::Open => "open",
+            Kind::Close => "close",
+            Kind::Balance => "balance",
+            Kind::Transaction => "transaction",
+            Kind::Posting => "posting",
+        })
+    }
+}
+
+// How many lines were read, by what they say, and how many were refused, by refusal.
 #[derive(Drop)]
 struct Account {
     lines: u32,
-    kinds: BTreeMap<&'static str, u32>,
-    refused: BTreeMap<u8, u32>,
+    kinds: BTreeMap<Kind, u32>,
+    refused: BTreeMap<Refusal, u32>,
 }
 
 fn one_more<K: Ord + Drop>(counts: &mut BTreeMap<K, u32>, key: K) -> Result<(), AllocError> {
@@ -62,7 +89,7 @@ impl Account {
     }
 
     fn list_refusal(&mut self, out: &mut String, fault: Fault) -> anyhow::Result<()> {
-        one_more(&mut self.refused, fault.refusal.number())?;
+        one_more(&mut self.refused, fault.refusal)?;
         writeln!(out, "{fault}")?;
         Ok(())
     }
@@ -71,9 +98,9 @@ impl Account {
         self.lines = self.lines.saturating_add(1);
         let number = self.lines;
         match read_line(text, number) {
-            Ok(None) => one_more(&mut self.kinds, "blank")?,
+            Ok(None) => one_more(&mut self.kinds, Kind::Blank)?,
             Ok(Some(directive)) => {
-                one_more(&mut self.kinds, kind_of(directive))?;
+                one_more(&mut self.kinds, Kind::from(directive))?;
                 writeln!(out, "line {number} {}", Listed(directive))?;
             }
             Err(fault) => self.list_refusal(out, fault)?,
@@ -96,11 +123,11 @@ impl Account {
     fn list_counts(&self, out: &mut String) -> anyhow::Result<()> {
         writeln!(out, "lines {}", self.lines)?;
         for kind in KINDS {
-            let count = self.kinds.get(kind).copied().unwrap_or(0);
+            let count = self.kinds.get(&kind).copied().unwrap_or(0);
             writeln!(out, "{kind} {count}")?;
         }
-        for (number, count) in &self.refused {
-            writeln!(out, "refusal {number}: {count}")?;
+        for (refusal, count) in &self.refused {
+            writeln!(out, "refusal {}: {count}", refusal.number())?;
         }
         Ok(())
     }
@@ -110,7 +137,7 @@ fn main(rt: HostRuntime) -> anyhow::Result<()> {
     let mut journal = Vec::new(rt.alloc());
     // one byte too many is enough to refuse the journal
     rt.stdin()
-        .take(JOURNAL_BYTES + 1)
+        .take(MOST_BYTES as u64 + 1)
         .read_to_end(&mut journal)?;
     let mut out = String::new(rt.alloc());
     let mut account = Account::new(rt.alloc());

@@ -2,6 +2,9 @@
 ghost use Rattle.std.specs.Prelude.{◌≡◌, pos, negsuc, ◌≤ℤ◌, MatchOption};
 ghost use Rattle.values.specs.Amounts.{InRange};
 
+// The largest amount.
+const LARGEST: i32 = 99_999_999;
+
 #[derive(Clone, Copy, Debug, PartialEq, Eq, PartialOrd, Ord)]
 pub struct Amount {
     hundredths: i32,
@@ -13,7 +16,7 @@ impl Amount {
     pub fn new(hundredths: i32) -> Option<Amount>
         ensures { MatchOption result (InRange hundredths → ⊥) (λ a. InRange hundredths × (a.hundredths ≡ hundredths)) }
     {
-        if (-99_999_999..=99_999_999).contains(&hundredths) {
+        if (-LARGEST..=LARGEST).contains(&hundredths) {
             Some(Amount { hundredths })
         } else {
             None

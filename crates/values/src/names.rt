@@ -5,6 +5,9 @@ ghost use Rattle.values.specs.Spelling.{IsCommodityName, IsAccountName, LiesUnde
 
 use byte_text::{ByteClass, after, all_of, byte_at, front, run_of};
 
+// The most bytes of a name of either kind.
+pub const LONGEST_NAME: usize = 48;
+
 // Whether a text is a commodity's name: 2 to 8 bytes A to Z or 0 to 9, the first a letter.
 pub fn is_commodity_name(text: &[u8]) -> bool
     ensures value { result ≡ is_commodity_name text.now }
@@ -45,7 +48,7 @@ pub fn is_account_name(text: &[u8]) -> bool
     ensures exactly { Decides result (IsAccountName text.now) }
 {
     let n = run_of(ByteClass::Except(b':'), text);
-    if text.len() > 48 || n == text.len() {
+    if text.len() > LONGEST_NAME || n == text.len() {
         return false;
     }
     is_root_name(front(text, n)) && are_parts(after(text, n + 1), 5)

@@ -6,11 +6,11 @@ use Rattle.values.proofs.Accounts.{account_decides}
 use Rattle.values.proofs.Parts.{account_long, account_alone, account_rootless, account_by}
 use Rattle.values.proofs.names.is_account_name.Goals as goal
 
-pub returns-then-text-gt48 : goal.returns-then-text-gt48
-returns-then-text-gt48 c =
+pub returns-then-text-gt-LONGEST_NAME : goal.returns-then-text-gt-LONGEST_NAME
+returns-then-text-gt-LONGEST_NAME c =
     let xs = c.args.text.now in
     let e : false ≡ is_account_name xs =
-    sym (⊎_elim (account_long xs) (λ w. account_alone xs (sym c.run_of-n.ensures.value ∙ w.1)) c.then-text-gt48.either) in
+    sym (⊎_elim (account_long xs) (λ w. account_alone xs (sym c.run_of-n.ensures.value ∙ w.1)) c.then-text-gt-LONGEST_NAME.either) in
     record { value = e; exactly = Decides-at _ _ e (account_decides _) }
 
 pub returns-then-is_root_name : goal.returns-then-is_root_name
