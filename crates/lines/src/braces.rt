@@ -34,6 +34,7 @@ fn opens_separator(text: &[u8]) -> bool
 fn separator(text: &[u8]) -> Option<usize>
     ensures { MatchOption result (before_separator text.now ≡ length text.now) (λ n. (n ≡ before_separator text.now) × (n < length text.now)) }
 {
+    // no `windows(2)`: tried, and what it says of its pairs did not lead to the definition
     (0..text.len()).find(|n| opens_separator(after(text, *n)))
 }
 
