@@ -1,5 +1,6 @@
 -- Date reading finds just the date that a text writes.
-use Rattle.std.proofs.Common.{◌≡◌, ℕ, ◌+◌, ◌*◌, ◌<◌, ◌≤◌, true, false, ◌&&◌, eqb, List, [], ◌∷◌, ◌++◌, length, get_or, take, drop, Some, None, Ok, Err, Option, Result, sym, ap, ◌∙◌, subst, arith, MatchResult}
+use Rattle.std.proofs.lemmas.Bool.Decides.{nat_tests}
+use Rattle.std.proofs.Common.{◌≡◌, ℕ, ◌+◌, ◌*◌, ◌<◌, ◌≤◌, true, false, ◌&&◌, eqb, List, [], ◌∷◌, ◌++◌, length, get_or, take, drop, Some, None, Ok, Err, Option, Result, sym, ap, ◌∙◌, arith, MatchResult}
 use Rattle.std.specs.Option as options
 use Rattle.std.specs.List.{AllByRecursion}
 use Rattle.std.proofs.lemmas.List.{length-take-le, length-drop}
@@ -13,7 +14,7 @@ use Rattle.fields.specs.Decimal.{decimal}
 use Rattle.fields.specs.Denotes.{value, WritesDate}
 use Rattle.fields.specs.Results.{map_ok, bind}
 use Rattle.fields.specs.declared.fault.FieldFault.{FieldFault}
-use Rattle.fields.proofs.Denotations.{written, from_decimal}
+use Rattle.fields.proofs.Denotations.{from_decimal}
 use Rattle.fields.proofs.Options.{from_bind, from_cond, from_ok, from_err}
 
 pub day_made : (r : Option Date) (y m d : ℕ) → m < 100 → d < 100 → options.MatchOption r (is_day (y * 10000 + m * 100 + d) ≡ false) (λ x. (is_day (y * 10000 + m * 100 + d) ≡ true) × (x.number ≡ y * 10000 + m * 100 + d)) → options.option_map (λ (x : Date). x.number) r ≡ day_of y m d
@@ -36,8 +37,7 @@ spelled_ten (a ∷ b ∷ c ∷ d ∷ e ∷ f ∷ g ∷ h ∷ i ∷ j ∷ []) l p
 spelled_ten (a ∷ b ∷ c ∷ d ∷ e ∷ f ∷ g ∷ h ∷ i ∷ j ∷ k ∷ ks) l p q = absurd (omega arith)
 
 moved : {a a' b b' c c' : ℕ} → a ≡ a' → b ≡ b' → c ≡ c' → CalendarDay a b c → CalendarDay a' b' c'
-moved {a} {a'} {b} {b'} {c} {c'} e f g h =
-    subst (λ (x : ℕ). CalendarDay x b' c') e (subst (λ (x : ℕ). CalendarDay a x c') f (subst (λ (x : ℕ). CalendarDay a b x) g h))
+moved {a} {a'} {b} {b'} {c} {c'} e f g h = grind (arith, nat_tests)
 
 sound : (t : List ℕ) (n : ℕ) → date t ≡ Some n → WritesDate t n
 sound t n e =
@@ -72,8 +72,7 @@ sound t n e =
     )
 
 complete : (ys ms ds : List ℕ) → AllByRecursion Digit ys → AllByRecursion Digit ms → AllByRecursion Digit ds → length ys ≡ 4 → length ms ≡ 2 → length ds ≡ 2 → CalendarDay (value ys) (value ms) (value ds) → date (ys ++ 45 ∷ (ms ++ 45 ∷ ds)) ≡ Some (day_number (value ys) (value ms) (value ds))
-complete (a ∷ b ∷ c ∷ d ∷ []) (e ∷ f ∷ []) (g ∷ h ∷ []) p q r k l n cal =
-    rw (written 0 (a ∷ b ∷ c ∷ d ∷ []) p, written 0 (e ∷ f ∷ []) q, written 0 (g ∷ h ∷ []) r, (calendar_decides _ _ _).1 cal)
+complete (a ∷ b ∷ c ∷ d ∷ []) (e ∷ f ∷ []) (g ∷ h ∷ []) p q r k l n cal = grind (arith, nat_tests)
 complete [] ms ds p q r k l n cal = absurd (omega arith)
 complete (a ∷ []) ms ds p q r k l n cal = absurd (omega arith)
 complete (a ∷ b ∷ []) ms ds p q r k l n cal = absurd (omega arith)

@@ -1,4 +1,5 @@
 -- Number reading finds just what a text denotes.
+use Rattle.std.proofs.lemmas.Bool.Decides.{nat_tests}
 use Rattle.std.proofs.Common.{◌≡◌, ℕ, ◌+◌, ◌-◌, ◌*◌, ◌^◌, ◌<◌, ◌≤◌, Bool, true, false, ◌&&◌, eqb, leb, List, [], ◌∷◌, ◌++◌, length, get_or, take, drop, ℤ, pos, neg_ℤ, Some, fold, sym, refl, ap, ◌∙◌, ⊎_elim, mul-one, one-add, arith}
 use Rattle.std.specs.Char.{is_ascii_digit}
 use Rattle.std.specs.Option.{option_map}
@@ -85,12 +86,7 @@ from_fraction (x ∷ y ∷ []) b p e =
 from_fraction (x ∷ y ∷ z ∷ []) b p e =
     let d = from_decimal 0 (y ∷ z ∷ []) b e in
     record { decimals = y ∷ z ∷ []; digits = d.0; few = omega arith; text = ap (λ (x : ℕ). x ∷ y ∷ z ∷ []) (p (omega arith)); worth = d.1 ∙ sym (mul-one _) }
-from_fraction (x ∷ y ∷ z ∷ u ∷ us) b p e =
-    let n = length (x ∷ y ∷ z ∷ u ∷ us) in
-    let a : eqb n 0 ≡ false = ne_eqb _ _ (λ h. omega arith) in
-    let c : eqb n 2 ≡ false = ne_eqb _ _ (λ h. omega arith) in
-    let d : eqb n 3 ≡ false = ne_eqb _ _ (λ h. omega arith) in
-    none_some (simp (a, c, d) at e)
+from_fraction (x ∷ y ∷ z ∷ u ∷ us) b p e = grind (arith, nat_tests)
 
 from_unsigned : (s : Bool) (t : List ℕ) (n : ℕ) → unsigned t ≡ Some n → (ws : List ℕ) × (cs : List ℕ) × Valid (record { minus = s; whole = ws; decimals = cs }) × (t ≡ ws ++ point cs) × (n ≡ size (record { minus = s; whole = ws; decimals = cs }))
 from_unsigned s t n e =

@@ -1,9 +1,11 @@
 -- Reading a quoted text finds just what stands between its quotes.
-use Rattle.std.proofs.Common.{◌≡◌, ℕ, suc, ◌+◌, ◌<◌, ◌≤◌, Bool, true, not, ◌&&◌, eqb, leb, List, [], ◌∷◌, ◌++◌, length, get_or, take, drop, IfOk, Some, None, Ok, Err, Result, sym, refl, ap, ◌∙◌, subst, ⊎_elim, add-one, arith, MatchResult}
+use Rattle.std.proofs.lemmas.Grind.{common_steps}
+use Rattle.std.proofs.lemmas.Bool.Decides.{nat_tests}
+use Rattle.std.proofs.Common.{◌≡◌, ℕ, suc, ◌+◌, ◌<◌, ◌≤◌, Bool, true, not, ◌&&◌, eqb, leb, List, [], ◌∷◌, ◌++◌, length, get_or, take, drop, IfOk, Some, None, Ok, Err, Result, sym, refl, ap, ◌∙◌, subst, add-one, arith, MatchResult}
 use Rattle.std.specs.Option.{option_map}
 use Rattle.std.specs.List.{AllByRecursion}
-use Rattle.std.proofs.lemmas.List.{take-append-drop, drop_more, drop-drop, get_or_past, drop_at, get_or_at, length-take, length-append}
-use Rattle.std.proofs.lemmas.Bool.{cases_lt, and_parts, and_from, or_cases, or_right, not-true, eqb-true, eqb-false, eq-eqb, ne_eqb, le-leb, leb-true, cond-true}
+use Rattle.std.proofs.lemmas.List.{drop-drop, drop_at, get_or_at, length-take, length-append}
+use Rattle.std.proofs.lemmas.Bool.{and_parts, and_from, or_right, eqb-true, eq-eqb, ne_eqb, le-leb, leb-true, cond-true}
 use Rattle.byte_text.specs.Classes.{in_class, run_length}
 use Rattle.byte_text.specs.declared.ByteClass.TheVariants.{QuotedText}
 use Rattle.byte_text.proofs.Runs.{run_passes, run_made}
@@ -16,9 +18,7 @@ use Rattle.fields.specs.declared.field.Field.{Field}
 use Rattle.fields.proofs.Options.{none_some, from_cond, from_mapped, from_ok, from_err, mapped_none}
 
 plain_byte : (b : ℕ) → in_class QuotedText b ≡ true → (b ≡ 34 → ⊥) × (b ≡ 92 → ⊥)
-plain_byte b e =
-    let p = and_parts (not (eqb b 34)) (not (eqb b 92)) e in
-    (eqb-false b 34 (not-true _ p.0), eqb-false b 92 (not-true _ p.1))
+plain_byte b e = grind (arith, nat_tests)
 
 byte_plain : (b : ℕ) → (b ≡ 34 → ⊥) × (b ≡ 92 → ⊥) → in_class QuotedText b ≡ true
 byte_plain b h = and_from _ _ (ap not (ne_eqb b 34 h.0)) (ap not (ne_eqb b 92 h.1))
@@ -32,20 +32,14 @@ plain_all [] h = tt
 plain_all (x ∷ xs) h = (byte_plain x h.0, plain_all xs h.1)
 
 at_byte : (xs : List ℕ) (n : ℕ) → get_or xs n 0 ≡ 34 → xs ≡ take n xs ++ 34 ∷ drop (n + 1) xs
-at_byte xs n e =
-    sym (take-append-drop n xs)
-    ∙ ap (λ (x : List ℕ). take n xs ++ x) (drop_more xs n 0 within ∙ ap (λ (x : ℕ). x ∷ drop (n + 1) xs) e)
+at_byte xs n e = grind (arith, common_steps)
   where
     within : n < length xs
-    within = ⊎_elim (λ (h : n < length xs). h) (λ (h : length xs ≤ n). let z = get_or_past xs n 0 h in absurd (omega arith)) (cases_lt n (length xs))
+    within = grind (arith, common_steps)
 
 pub ends_sound : (rest : List ℕ) → ends_field rest ≡ true → FieldEnds rest
 ends_sound [] e = tt
-ends_sound (b ∷ bs) e =
-    ⊎_elim
-    (λ (z : eqb (length (b ∷ bs)) 0 ≡ true). absurd (omega (arith, eqb-true (length (b ∷ bs)) 0 z)))
-    (λ (s : eqb b 32 ≡ true). eqb-true b 32 s)
-    (or_cases _ _ e)
+ends_sound (b ∷ bs) e = grind (arith, nat_tests)
 
 pub ends_complete : (rest : List ℕ) → FieldEnds rest → ends_field rest ≡ true
 ends_complete [] h = refl

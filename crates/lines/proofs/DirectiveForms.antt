@@ -1,14 +1,15 @@
 -- Lines that are no postings say what they are written to say.
+use Rattle.std.proofs.lemmas.Grind.{common_steps}
+use Rattle.std.proofs.lemmas.Bool.Decides.{nat_tests}
 use Rattle.std.proofs.Common.{◌≡◌, ℕ, ◌+◌, ◌≤◌, Bool, true, false, cond, ◌&&◌, eqb, List, [], ◌∷◌, ◌++◌, length, get_or, drop, Ok, Err, codes, Result, sym, refl, ap, ◌∙◌, subst, arith}
 use Rattle.std.specs.Char.{is_ascii_digit}
-use Rattle.std.specs.List.{AllByRecursion}
 use Rattle.std.specs.Str.{bytes_eq}
 use Rattle.std.proofs.lemmas.Slice.Eq.{bytes_eq-Decides}
 use Rattle.std.proofs.lemmas.List.{nil_from_length}
 use Rattle.std.proofs.lemmas.Bool.{and_parts, eqb-true, eq-eqb, ne_eqb}
 use Rattle.byte_text.specs.Classes.{run_length}
 use Rattle.byte_text.specs.declared.ByteClass.TheVariants.{Space}
-use Rattle.values.specs.Spelling.{Digit, Starts}
+use Rattle.values.specs.Spelling.{Starts}
 use Rattle.values.proofs.Commodities.{within_decides}
 use Rattle.fields.specs.Dates.{date_at}
 use Rattle.fields.specs.Denotes.{WritesDate}
@@ -34,10 +35,6 @@ by_choice false x y z e f g = g refl e
 first_place : (line : List ℕ) → (get_or line 0 0 ≡ 32 → ⊥) → field_start line 0 + 1 ≡ 1
 first_place [] n = omega (arith, start_is [] 0)
 first_place (b ∷ bs) n = let none : run_length Space (b ∷ bs) ≡ 0 = rw (ne_eqb b 32 n) in omega (arith, start_is (b ∷ bs) 0, none)
-
-starts_digit : (year more rest : List ℕ) → AllByRecursion Digit year → length year ≡ 4 → is_ascii_digit (get_or ((year ++ more) ++ rest) 0 0) ≡ true
-starts_digit [] more rest h l = absurd (omega arith)
-starts_digit (y ∷ ys) more rest h l = (within_decides 48 57 y).1 h.0
 
 module _ (line : List ℕ) where
   abbrev word_at : Spot
@@ -67,11 +64,7 @@ module _ (line : List ℕ) where
       digit_no_space b h z = let p = (within_decides 48 57 b).0 h in omega arith
 
   first_digit : (day : Spot) (rest : List ℕ) (q d : ℕ) → Next 1 line day rest q → day.place ≡ 1 → WritesDate day.text d → is_ascii_digit (get_or line 0 0) ≡ true
-  first_digit day rest q d n p w =
-      let none : n.gap ≡ [] = nil_from_length n.gap (omega (arith, n.place)) in
-      let whole : line ≡ (w.0.year ++ 45 ∷ (w.0.month ++ 45 ∷ w.0.day)) ++ rest =
-      n.spelled ∙ ap (λ (g : List ℕ). g ++ (day.text ++ rest)) none ∙ ap (λ (t : List ℕ). t ++ rest) w.0.spelled in
-      ap (λ (t : List ℕ). is_ascii_digit (get_or t 0 0)) whole ∙ starts_digit w.0.year _ rest w.0.digits.0 w.0.lengths.0
+  first_digit day rest q d n p w = grind (arith, common_steps)
 
   dated_only : (d : ℕ) (word rest : List ℕ) (q : ℕ) → Dated line d word rest q → (is_ascii_digit (get_or line 0 0) ≡ true) × (date_at (field_at line 0).text (field_at line 0).place ≡ Ok d) × (word_at.text ≡ word) × (drop behind line ≡ rest) × (behind + 1 ≡ q)
   dated_only d word rest q h =
@@ -246,23 +239,11 @@ module _ (line : List ℕ) where
   directive_complete number (posting p) h n = absurd (n p refl)
 
   -- a line in such a form starts with its first field
-  starts_unspaced : (b : ℕ) → get_or line 0 0 ≡ b → (b ≡ 0 → ⊥) → (b ≡ 32 → ⊥) → Starts (λ x. x ≡ 32 → ⊥) line
-  starts_unspaced b e z n = first line (get_or line 0 0) refl (λ y. z (sym e ∙ y)) (λ y. n (sym e ∙ y))
-    where
-      first : (t : List ℕ) (c : ℕ) → get_or t 0 0 ≡ c → (c ≡ 0 → ⊥) → (c ≡ 32 → ⊥) → Starts (λ x. x ≡ 32 → ⊥) t
-      first [] c e z n = absurd (z (sym e))
-      first (x ∷ xs) c e z n = λ y. n (sym e ∙ y)
-
   digit_first : is_ascii_digit (get_or line 0 0) ≡ true → Starts (λ x. x ≡ 32 → ⊥) line
-  digit_first h = let p = (within_decides 48 57 (get_or line 0 0)).0 h in starts_unspaced (get_or line 0 0) refl (λ z. omega arith) (λ z. omega arith)
+  digit_first h = grind (arith, nat_tests)
 
   pub form_first : (number : ℕ) (s : Said) → Form number line s → ((p : PostingSaid) → s ≡ posting p → ⊥) → Starts (λ x. x ≡ 32 → ⊥) line
-  form_first number (booking_method m) h n =
-      let g = h.1 in
-      let none : g.opens.gap ≡ [] = nil_from_length g.opens.gap (omega (arith, g.opens.place, g.first)) in
-      let whole : line ≡ codes "option" ++ g.after_keyword =
-      g.opens.spelled ∙ ap (λ (x : List ℕ). x ++ (g.keyword.text ++ g.after_keyword)) none ∙ ap (λ (x : List ℕ). x ++ g.after_keyword) g.says in
-      starts_unspaced 111 (ap (λ (x : List ℕ). get_or x 0 0) whole) (λ z. omega arith) (λ z. omega arith)
+  form_first number (booking_method m) h n = grind (arith, common_steps)
   form_first number (commodity d name) h n = digit_first (dated_only d (codes "commodity") h.0 h.1 h.2).0
   form_first number (opening d account own) h n = digit_first (dated_only d (codes "open") h.0 h.1 h.2).0
   form_first number (closing d account) h n = digit_first (dated_only d (codes "close") h.0 h.1 h.2).0

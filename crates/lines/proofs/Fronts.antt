@@ -51,10 +51,6 @@ pub opens_halt : (t : List ℕ) → Opens t → Halts (in_class Space) t
 opens_halt [] h = tt
 opens_halt (b ∷ bs) h = ne_eqb b 32 h
 
-pub halt_opens : (t : List ℕ) → Halts (in_class Space) t → Opens t
-halt_opens [] h = tt
-halt_opens (b ∷ bs) h = eqb-false b 32 h
-
 -- a word in front, and what follows it
 pub word_opens : (w rest : List ℕ) → Word w → Opens (w ++ rest)
 word_opens [] rest h = absurd (omega (arith, h.some))

@@ -1,16 +1,16 @@
 -- A journal's lines are its first, and those of what stands behind it.
-use Rattle.std.proofs.Common.{◌≡◌, ℕ, ◌+◌, ◌<◌, ◌≤◌, true, false, eqb, List, [], ◌∷◌, length, take, drop, IfSome, Some, None, Option, sym, ap, ◌∙◌, ⊎_elim, arith}
+use Rattle.std.proofs.lemmas.Bool.Decides.{nat_tests}
+use Rattle.std.proofs.Common.{◌≡◌, ℕ, ◌+◌, ◌<◌, ◌≤◌, false, eqb, List, [], ◌∷◌, length, take, drop, IfSome, Some, None, Option, sym, ap, ◌∙◌, ⊎_elim, arith}
 use Rattle.std.specs.Option.{option_map}
-use Rattle.std.proofs.lemmas.List.{take_all, drop_all, length-drop, nil_from_length}
+use Rattle.std.proofs.lemmas.List.{take_all, drop_all, length-drop}
 use Rattle.std.proofs.lemmas.List.Sums.{prefix_len-le-length}
-use Rattle.std.proofs.lemmas.Bool.{cases_lt, cases_Bool, cond-true, cond-false, eqb-true, eqb-false, ne_eqb}
+use Rattle.std.proofs.lemmas.Bool.{cases_lt, cond-false, ne_eqb}
 use Rattle.byte_text.specs.Classes.{before}
 use Rattle.values.specs.Names.{split_at}
 use Rattle.values.proofs.Parts.{split_last, split_more, split_first}
 use Rattle.lines.specs.Lines.{without_last_empty, lines_of}
-use Rattle.lines.specs.Journals.{FirstLine, cut_said, first_line, lines_by}
+use Rattle.lines.specs.Journals.{cut_said, first_line, lines_by}
 use Rattle.lines.specs.declared.journal.LineCut.{LineCut}
-use Rattle.fields.proofs.Options.{none_some}
 
 kept : (p : List ℕ) (ps : List (List ℕ)) (q : List ℕ) (qs : List (List ℕ)) → ps ≡ q ∷ qs → without_last_empty (p ∷ ps) ≡ p ∷ without_last_empty ps
 kept p ps q qs e = rw e
@@ -38,15 +38,7 @@ lines_more bs h =
 -- a cut comes of some bytes, and shows what stands before and behind the line's end
 some_cut : (c : LineCut) (bs : List ℕ) → Some (cut_said c) ≡ first_line bs → (0 < length bs) × (take (before 10 bs) bs ≡ c.line.now) × (drop (before 10 bs + 1) bs ≡ c.rest.now)
 unfolding first_line
-some_cut c bs h =
-    ⊎_elim
-    (λ (e : eqb (length bs) 0 ≡ true). none_some (sym (h ∙ cond-true _ _ _ e)))
-    (λ (e : eqb (length bs) 0 ≡ false).
-    let first : FirstLine = record { line = take (before 10 bs) bs; rest = drop (before 10 bs + 1) bs } in
-    let same : first ≡ cut_said c = same_some (sym (h ∙ cond-false _ _ _ e)) in
-    let some = eqb-false _ _ e in
-    (positive (length bs) some, ap (λ (x : FirstLine). x.line) same, ap (λ (x : FirstLine). x.rest) same))
-    (cases_Bool (eqb (length bs) 0))
+some_cut c bs h = grind (arith, nat_tests)
   where
     same_some : {A : Type 0} {x y : A} → Some x ≡ Some y → x ≡ y
     same_some e = cc
@@ -56,11 +48,7 @@ some_cut c bs h =
 
 no_cut : (bs : List ℕ) → None ≡ first_line bs → bs ≡ []
 unfolding first_line
-no_cut bs h =
-    ⊎_elim
-    (λ (e : eqb (length bs) 0 ≡ true). nil_from_length bs (eqb-true _ _ e))
-    (λ (e : eqb (length bs) 0 ≡ false). none_some (h ∙ cond-false _ _ _ e))
-    (cases_Bool (eqb (length bs) 0))
+no_cut bs h = grind (arith, nat_tests)
 
 pub lines_cut : (r : Option LineCut) (bs : List ℕ) → option_map cut_said r ≡ first_line bs → lines_of bs ≡ lines_by r
 lines_cut None bs h = ap lines_of (no_cut bs h)

@@ -1,4 +1,5 @@
 -- A line is read exactly as it is written.
+use Rattle.std.proofs.lemmas.Bool.Decides.{nat_tests}
 use Rattle.std.proofs.Common.{◌≡◌, ℕ, ◌≤◌, Bool, true, false, ◌&&◌, eqb, leb, List, [], ◌∷◌, length, get_or, Some, None, Ok, Err, Decides, Option, Result, sym, refl, ap, ◌∙◌, subst, ⊎_elim, arith, MatchResult}
 use Rattle.std.specs.List.{AllByRecursion, list_all}
 use Rattle.std.proofs.lemmas.Bool.{cases_Bool, cond-true, cond-false, and_parts, and_from, and_right, leb-true, le-leb, eqb-true, eqb-false, eq-eqb, ne_eqb, false≢true}
@@ -93,21 +94,7 @@ module _ (line : List ℕ) where
   -- the first byte tells postings from other lines
   first_told : (k : LineKind) → line_kind line ≡ k → (k ≡ kind.Posting → eqb (get_or line 0 0) 32 ≡ true) × (k ≡ kind.Other → eqb (get_or line 0 0) 32 ≡ false)
   unfolding line_kind
-  first_told k e =
-      ⊎_elim
-      (λ (t : (leb (length line) 120 && all_in Space line) ≡ true).
-      let b : k ≡ kind.Blank = sym e ∙ cond-true _ _ _ t in
-      (λ h. absurd (grind (arith, sym b ∙ h)), λ h. absurd (grind (arith, sym b ∙ h))))
-      (λ (f : (leb (length line) 120 && all_in Space line) ≡ false).
-      ⊎_elim
-      (λ (y : eqb (get_or line 0 0) 32 ≡ true).
-      let b : k ≡ kind.Posting = sym e ∙ cond-false _ kind.Blank _ f ∙ cond-true _ _ _ y in
-      (λ h. y, λ h. absurd (grind (arith, sym b ∙ h))))
-      (λ (y : eqb (get_or line 0 0) 32 ≡ false).
-      let b : k ≡ kind.Other = sym e ∙ cond-false _ kind.Blank _ f ∙ cond-false _ _ _ y in
-      (λ h. absurd (grind (arith, sym b ∙ h)), λ h. y))
-      (cases_Bool (eqb (get_or line 0 0) 32)))
-      (cases_Bool (leb (length line) 120 && all_in Space line))
+  first_told k e = grind (arith, nat_tests)
 
   posting_first : line_kind line ≡ kind.Posting → Starts (λ b. b ≡ 32) line
   posting_first e = first line (eqb-true _ _ ((first_told kind.Posting e).0 refl))

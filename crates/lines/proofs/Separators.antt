@@ -1,6 +1,6 @@
 -- The first comma with a space behind it.
-use Rattle.std.proofs.Common.{◌≡◌, ℕ, suc, ◌<◌, ◌≤◌, true, false, ◌&&◌, eqb, List, [], ◌∷◌, length, get_or, drop, Option, Some, None, ap, ◌∙◌, sym, zero, add-zero, add-one, one-add, arith, MatchOption}
-use Rattle.std.proofs.lemmas.List.{get_or-drop}
+use Rattle.std.proofs.lemmas.Grind.{common_steps}
+use Rattle.std.proofs.Common.{◌≡◌, ℕ, suc, ◌<◌, ◌≤◌, true, false, List, [], ◌∷◌, length, drop, Option, Some, None, ap, ◌∙◌, sym, zero, add-one, one-add, arith, MatchOption}
 use Rattle.std.proofs.lemmas.Bool.{cond-true, cond-false}
 use Rattle.lines.specs.Braces.{separates, before_separator}
 
@@ -16,9 +16,7 @@ separator_is (b ∷ bs) (suc n) l none some =
     ∙ ap suc (separator_is bs n (omega arith) (λ k h. sym (separates_behind b bs k) ∙ none (suc k) (omega arith)) (λ h. sym (separates_behind b bs n) ∙ some (omega arith)))
 
 separates_at : (xs : List ℕ) (k : ℕ) → separates (drop k xs) 0 ≡ separates xs k
-separates_at xs k =
-    ap (λ (b : ℕ). eqb b 44 && eqb (get_or (drop k xs) 1 0) 32) (get_or-drop k xs 0 0 ∙ ap (λ (i : ℕ). get_or xs i 0) (add-zero k))
-    ∙ ap (λ (b : ℕ). eqb (get_or xs k 0) 44 && eqb b 32) (get_or-drop k xs 1 0)
+separates_at xs k = grind (arith, common_steps)
 
 pub separator_found : (r : Option ℕ) (xs : List ℕ) → MatchOption r ((k : ℕ) → 0 ≤ k → k < length xs → separates (drop k xs) 0 ≡ false) (λ i. (0 ≤ i) × (i < length xs) × (separates (drop i xs) 0 ≡ true) × ((k : ℕ) → 0 ≤ k → k < i → separates (drop k xs) 0 ≡ false)) → MatchOption r (before_separator xs ≡ length xs) (λ n. (n ≡ before_separator xs) × (n < length xs))
 separator_found None xs none =

@@ -1,11 +1,10 @@
 -- Quoted texts in a line, found and written: transactions and the option.
-use Rattle.std.proofs.Common.{◌≡◌, ℕ, ◌+◌, true, false, cond, List, ◌∷◌, ◌++◌, length, take, drop, Some, None, Ok, Err, codes, Option, Result, sym, refl, ap, ◌∙◌, subst, ⊎_elim, arith}
-use Rattle.std.specs.Option.{ok_or, option_map}
+use Rattle.std.proofs.lemmas.Grind.{common_steps}
+use Rattle.std.proofs.lemmas.Bool.Decides.{nat_tests}
+use Rattle.std.proofs.Common.{◌≡◌, ℕ, ◌+◌, true, false, cond, List, ◌∷◌, ◌++◌, length, take, drop, Some, None, Ok, Err, codes, Option, Result, sym, refl, ap, ◌∙◌, subst, ⊎_elim, rules, tests, arith}
 use Rattle.std.specs.List.{prefix_len}
-use Rattle.std.specs.Str.{bytes_eq}
 use Rattle.std.proofs.lemmas.Slice.Eq.{bytes_eq-Decides}
-use Rattle.std.proofs.lemmas.List.{take-append-drop, drop-drop, take_at, drop_at, length-take}
-use Rattle.std.proofs.lemmas.List.Sums.{prefix_len-le-length}
+use Rattle.std.proofs.lemmas.List.{take-append-drop, drop-drop, take_at, drop_at}
 use Rattle.std.proofs.lemmas.Bool.{cases_Bool}
 use Rattle.byte_text.specs.Classes.{in_class}
 use Rattle.byte_text.specs.declared.ByteClass.TheVariants.{Space}
@@ -14,9 +13,6 @@ use Rattle.fields.specs.Denotes.{Quotes}
 use Rattle.fields.specs.Quoted.{quoted_length, quoted_at}
 use Rattle.fields.specs.Results.{and_then}
 use Rattle.fields.specs.Spots.{Spot}
-use Rattle.fields.specs.declared.fault.FieldFault.{FieldFault}
-use Rattle.fields.specs.declared.fault.FieldFault.TheVariants.{QuotedText}
-use Rattle.fields.proofs.Options.{none_some, from_mapped, from_ok}
 use Rattle.fields.proofs.Quotations.{quoted_sound, quoted_complete, behind}
 use Rattle.lines.specs.Cuts.{field_start, rest_at}
 use Rattle.lines.specs.Directives.{QuotedSaid, quoted_from, transaction_from, method_named, method_or, method_from, is_method_option, option_from}
@@ -41,19 +37,17 @@ module _ (line : List ℕ) where
 
   from_quoted : (s t : Spot) → quoted_at s ≡ Ok t → (n : ℕ) × (quoted_length s.text ≡ Some n) × (shown s n ≡ t)
   unfolding quoted_at
-  from_quoted s t e = from_mapped (quoted_length s.text) (shown s) t (from_ok (option_map (shown s) (quoted_length s.text)) _ t (sym e))
+  from_quoted s t e = grind (arith, nat_tests)
 
   to_quoted : (s : Spot) (n : ℕ) → quoted_length s.text ≡ Some n → quoted_at s ≡ Ok (shown s n)
   unfolding quoted_at
-  to_quoted s n e =
-      let made : Option ℕ → Result Spot FieldFault = λ o. ok_or (option_map (shown s) o) (QuotedText s.place) in
-      ap made e
+  to_quoted s n e = cc
 
   abbrev start : ℕ → Spot
   start from = rest_at line from
 
   gap_size : (from : ℕ) → length (take (gap_length line from) (here line from)) ≡ gap_length line from
-  gap_size from = omega (arith, length-take (gap_length line from) (here line from), prefix_len-le-length (in_class Space) (here line from))
+  gap_size from = grind (arith, common_steps)
 
   pub quoted_found : (from : ℕ) (q : QuotedSaid) → quoted_from line from ≡ Ok q → Quoted (from + 1) (drop from line) q.text (drop q.end line) (q.end + 1)
   unfolding quoted_from
@@ -131,19 +125,7 @@ module _ (line : List ℕ) where
 
   -- the methods by their names
   method_sound : (name : List ℕ) (m : Method) → method_named name ≡ Some m → name ≡ method_name m
-  method_sound name m e =
-      ⊎_elim
-      (λ (y : bytes_eq name (codes "STRICT") ≡ true). (bytes_eq-Decides _ _).0 y ∙ ap method_name (same_some (rw y at e)))
-      (λ (n : bytes_eq name (codes "STRICT") ≡ false).
-      ⊎_elim
-      (λ (y : bytes_eq name (codes "FIFO") ≡ true). (bytes_eq-Decides _ _).0 y ∙ ap method_name (same_some (rw (n, y) at e)))
-      (λ (n₂ : bytes_eq name (codes "FIFO") ≡ false).
-      ⊎_elim
-      (λ (y : bytes_eq name (codes "LIFO") ≡ true). (bytes_eq-Decides _ _).0 y ∙ ap method_name (same_some (rw (n, n₂, y) at e)))
-      (λ (n₃ : bytes_eq name (codes "LIFO") ≡ false). none_some (rw (n, n₂, n₃) at e))
-      (cases_Bool (bytes_eq name (codes "LIFO"))))
-      (cases_Bool (bytes_eq name (codes "FIFO"))))
-      (cases_Bool (bytes_eq name (codes "STRICT")))
+  method_sound name m e = search (rules, tests)
 
   method_complete : (m : Method) → method_named (method_name m) ≡ Some m
   method_complete Strict = refl

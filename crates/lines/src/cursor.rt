@@ -68,6 +68,7 @@ impl<'a> Cursor<'a> {
     }
 
     // The next field: empty, one past the end, where there is none.
+    #[tactic(auto, unfolding(crate::specs::Cuts::field_text, crate::specs::Cuts::field_end))]
     pub(crate) fn next_field(&mut self) -> Field<'a>
         ensures field { seen result ≡ field_at self.old.bytes.now self.old.at }
         ensures bytes { self.new.bytes.now ≡ self.old.bytes.now }

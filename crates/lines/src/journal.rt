@@ -28,6 +28,7 @@ pub fn check_journal(journal: &[u8]) -> Result<(), Fault>
 }
 
 // The first line of what is left of a journal, if any.
+#[tactic(auto, unfolding(crate::specs::Journals::first_line))]
 pub fn split_line<'a>(journal: &'a [u8]) -> Option<LineCut<'a>>
     ensures value { option_map cut_said result ≡ first_line journal.now }
     ensures lines { lines_of journal.now ≡ lines_by result }

@@ -1,28 +1,20 @@
 -- An account's name is spelled as it is tested.
-use Rattle.std.proofs.Common.{◌≡◌, ℕ, ◌≤◌, true, false, not, eqb, leb, ◌⊎◌, List, [], ◌∷◌, ◌++◌, length, get_or, codes, Decides, sym, refl, ap, ◌∙◌, subst, ⊎_elim, arith}
+use Rattle.std.proofs.Common.{◌≡◌, ℕ, ◌≤◌, true, false, not, eqb, leb, ◌⊎◌, List, [], ◌∷◌, ◌++◌, length, get_or, Decides, sym, refl, ap, ◌∙◌, subst, ⊎_elim, rules, tests, arith}
 use Rattle.std.specs.List.{AllByRecursion, list_all, onto_first}
-use Rattle.std.proofs.lemmas.Slice.Eq.{bytes_eq-Decides}
-use Rattle.std.proofs.lemmas.Bool.{and_parts, and_from, le-leb, leb-true, cases_Bool, eqb-true, ne_eqb, not-true, false≢true}
-use Rattle.std.proofs.lemmas.Bool.Decides.{nat_tests, Decides-and, Decides-or, Decides-like, Decides-eqb}
+use Rattle.std.proofs.lemmas.Bool.{and_parts, and_from, le-leb, leb-true, cases_Bool, eqb-true, not-true, false≢true}
+use Rattle.std.proofs.lemmas.Bool.Decides.{nat_tests, Decides-and, Decides-like}
 use Rattle.std.proofs.ByRecursion.{Decides-by_and}
 use Rattle.byte_text.specs.Classes.{in_class}
 use Rattle.byte_text.specs.declared.ByteClass.TheVariants.{CommodityName, AccountPart}
 use Rattle.values.specs.Names.{is_account_name, is_part, is_root, split_at, root_and_parts}
 use Rattle.values.specs.Spelling.{Capital, Lowercase, Digit, Starts, Root, Part, joined_by_colons, IsAccountName}
-use Rattle.values.proofs.Commodities.{within_decides, capital_or_digit}
+use Rattle.values.proofs.Commodities.{capital_or_digit}
 
 root_decides : (t : List ℕ) → Decides (is_root t) (Root t)
-root_decides t =
-    Decides-or _ _ (bytes_eq-Decides t (codes "Assets"))
-    (Decides-or _ _ (bytes_eq-Decides t (codes "Liabilities"))
-    (Decides-or _ _ (bytes_eq-Decides t (codes "Equity"))
-    (Decides-or _ _ (bytes_eq-Decides t (codes "Income")) (bytes_eq-Decides t (codes "Expenses")))))
+root_decides t = search (rules, tests)
 
 part_byte : (b : ℕ) → Decides (in_class AccountPart b) (((Capital b ⊎ Lowercase b) ⊎ Digit b) ⊎ (b ≡ 45))
-part_byte b =
-    Decides-or _ _
-    (Decides-or _ _ (Decides-or _ _ (within_decides 65 90 b) (within_decides 97 122 b)) (within_decides 48 57 b))
-    (Decides-eqb b 45)
+part_byte b = grind (arith, nat_tests)
 
 first_of_part : (t : List ℕ) → Decides (in_class CommodityName (get_or t 0 0)) (Starts (λ b. Capital b ⊎ Digit b) t)
 first_of_part [] = (λ e. absurd (grind (arith, nat_tests)), λ h. absurd h)
@@ -92,9 +84,7 @@ joined_split p [] h hs = split_alone p h
 joined_split p (q ∷ qs) h hs = split_front p (joined_by_colons q qs) h ∙ ap (λ (x : List (List ℕ)). p ∷ x) (joined_split q qs hs.0 hs.1)
 
 byte_no_colon : (b : ℕ) → ((Capital b ⊎ Lowercase b) ⊎ Digit b) ⊎ (b ≡ 45) → eqb b 58 ≡ false
-byte_no_colon b h =
-    ne_eqb b 58
-    (λ e. ⊎_elim (λ l. ⊎_elim (λ a. ⊎_elim (λ u. omega arith) (λ s. omega arith) a) (λ d. omega arith) l) (λ y. omega arith) h)
+byte_no_colon b h = grind (arith, nat_tests)
 
 part_no_colon : (bs : List ℕ) → AllByRecursion (λ b. ((Capital b ⊎ Lowercase b) ⊎ Digit b) ⊎ (b ≡ 45)) bs → NoColon bs
 part_no_colon [] h = tt
@@ -112,11 +102,7 @@ word : (t w : List ℕ) → list_all (λ b. not (eqb b 58)) w ≡ true → t ≡
 word t w e h = subst NoColon (sym h) (no_colon_by w e)
 
 root_no_colon : (t : List ℕ) → Root t → NoColon t
-root_no_colon t h =
-    ⊎_elim (word t (codes "Assets") refl)
-    (⊎_elim (word t (codes "Liabilities") refl)
-    (⊎_elim (word t (codes "Equity") refl) (⊎_elim (word t (codes "Income") refl) (word t (codes "Expenses") refl))))
-    h
+root_no_colon t h = grind (arith, nat_tests)
 
 from_parts : (t : List ℕ) (ps : List (List ℕ)) → split_at 58 t ≡ ps → root_and_parts ps ≡ true → length t ≤ 48 → IsAccountName t
 from_parts t [] e h l = absurd (false≢true h)

@@ -2,7 +2,6 @@
 use Rattle.std.proofs.Common.{ℕ, ◌≤◌, ◌&&◌, leb, ◌⊎◌, List, [], ◌∷◌, length, get_or, Decides, refl, arith}
 use Rattle.std.specs.Char.{is_ascii_uppercase}
 use Rattle.std.specs.List.{list_all}
-use Rattle.std.proofs.lemmas.Bool.{and_parts, and_from, le-leb, leb-true}
 use Rattle.std.proofs.lemmas.Bool.Decides.{nat_tests, Decides-and, Decides-or, Decides-like}
 use Rattle.std.proofs.ByRecursion.{Decides-by_and}
 use Rattle.byte_text.specs.Classes.{in_class}
@@ -11,10 +10,7 @@ use Rattle.values.specs.Names.{is_commodity_name}
 use Rattle.values.specs.Spelling.{Capital, Digit, Starts, IsCommodityName}
 
 pub within_decides : (low high b : ℕ) → Decides (leb low b && leb b high) ((low ≤ b) × (b ≤ high))
-within_decides low high b = (
-  λ e. let p = and_parts (leb low b) (leb b high) e in (leb-true _ _ p.0, leb-true _ _ p.1),
-  λ h. and_from _ _ (le-leb _ _ h.0) (le-leb _ _ h.1),
-)
+within_decides low high b = grind (arith, nat_tests)
 
 pub capital_or_digit : (b : ℕ) → Decides (in_class CommodityName b) (Capital b ⊎ Digit b)
 capital_or_digit b = Decides-or _ _ (within_decides 65 90 b) (within_decides 48 57 b)

@@ -1,25 +1,19 @@
 -- An account lies under another exactly where the test says so.
-use Rattle.std.proofs.Common.{◌≡◌, ℕ, ◌+◌, ◌<◌, ◌≤◌, ◌&&◌, eqb, List, ◌∷◌, ◌++◌, length, get_or, take, drop, Decides, sym, refl, ap, ◌∙◌, ⊎_elim, arith}
+use Rattle.std.proofs.lemmas.Grind.{common_steps}
+use Rattle.std.proofs.Common.{◌≡◌, ℕ, ◌+◌, ◌<◌, ◌&&◌, eqb, List, ◌∷◌, ◌++◌, length, get_or, take, drop, Decides, refl, ap, ◌∙◌, arith}
 use Rattle.std.specs.Str.{bytes_eq}
 use Rattle.std.proofs.lemmas.Slice.Eq.{bytes_eq-Decides}
-use Rattle.std.proofs.lemmas.List.{take-append-drop, drop_more, get_or_past, take_at, get_or_at}
-use Rattle.std.proofs.lemmas.Bool.{and_parts, and_from, cases_lt, eqb-true, eq-eqb}
+use Rattle.std.proofs.lemmas.List.{take_at, get_or_at}
+use Rattle.std.proofs.lemmas.Bool.{and_parts, and_from, eqb-true, eq-eqb}
 use Rattle.std.proofs.lemmas.Bool.Decides.{Decides-or}
 use Rattle.values.specs.Names.{lies_under}
 use Rattle.values.specs.Spelling.{LiesUnder}
 
 within : (a : List ℕ) (n : ℕ) → get_or a n 0 ≡ 58 → n < length a
-within a n e =
-    ⊎_elim
-    (λ (h : n < length a). h)
-    (λ (h : length a ≤ n). let z = get_or_past a n 0 h in absurd (omega arith))
-    (cases_lt n (length a))
+within a n e = grind (arith, common_steps)
 
 behind : (a b : List ℕ) → take (length b) a ≡ b → get_or a (length b) 0 ≡ 58 → a ≡ b ++ 58 ∷ drop (length b + 1) a
-behind a b e f =
-    sym (take-append-drop (length b) a)
-    ∙ ap (λ (x : List ℕ). x ++ drop (length b) a) e
-    ∙ ap (λ (x : List ℕ). b ++ x) (drop_more a (length b) 0 (within a (length b) f) ∙ ap (λ (x : ℕ). x ∷ drop (length b + 1) a) f)
+behind a b e f = grind (arith, common_steps)
 
 below_decides : (a b : List ℕ) → Decides (bytes_eq (take (length b) a) b && eqb (get_or a (length b) 0) 58) ((rest : List ℕ) × (a ≡ b ++ 58 ∷ rest))
 below_decides a b = (

@@ -1,16 +1,9 @@
-use Rattle.std.proofs.Common.{◌≡◌, Some, None, Option, rules}
+use Rattle.std.proofs.Common.{◌≡◌, Some, Option, rules}
 use Rattle.std.specs.Option.{option_map}
 use Rattle.lines.specs.Journals.{cut_said, first_line}
 use Rattle.lines.specs.declared.journal.LineCut.{LineCut}
 use Rattle.lines.proofs.Journals.{lines_cut, rest_shorter}
 use Rattle.lines.proofs.journal.split_line.Goals as goal
-
-pub returns-then-is_empty : goal.returns-then-is_empty
-unfolding first_line
-returns-then-is_empty c =
-    let r : Option LineCut = None in
-    let e : option_map cut_said r ≡ first_line c.args.journal.now = search rules in
-    record { value = e; lines = lines_cut r _ e; shorter = rest_shorter r _ e }
 
 pub returns : goal.returns
 unfolding first_line

@@ -1,5 +1,4 @@
-use Rattle.std.proofs.Common.{◌≡◌, arith, rules}
-use Rattle.std.proofs.lemmas.Grind.{common_steps}
+use Rattle.std.proofs.Common.{◌≡◌, rules}
 use Rattle.std.proofs.lemmas.Bool.Decides.{Decides-at}
 use Rattle.values.specs.Names.{is_commodity_name}
 use Rattle.values.proofs.Commodities.{commodity_decides}
@@ -14,7 +13,4 @@ returns-then-is_ascii_uppercase c =
 
 pub returns-else-is_ascii_uppercase : goal.returns-else-is_ascii_uppercase
 unfolding is_commodity_name
-returns-else-is_ascii_uppercase c =
-    let e : c.if-contains.value ≡ is_commodity_name c.args.text.now =
-    elim c.if-contains.branch [ then-contains w ↦ grind (arith, common_steps) | else-contains w ↦ grind (arith, common_steps) ] in
-    record { value = e; exactly = Decides-at _ _ e (commodity_decides _) }
+returns-else-is_ascii_uppercase c = search rules
