@@ -8,7 +8,7 @@ use values::amount::Amount;
 use values::date::Date;
 use values::flag::Flag;
 
-// An amount in hundredths, with two decimals.
+// An amount in hundredths, with two decimals; a plain figure, since what is printed need not be an `Amount`.
 #[derive(Clone, Copy)]
 pub struct Decimal(pub i32);
 
@@ -37,7 +37,8 @@ impl fmt::Display for Day {
     }
 }
 
-// A part of a line, or the whole of it, as it is listed.
+// A part of a line, or the whole of it, as it is listed. A type around the others, since only a type of one's own can be given
+// a `Display`, and how programs print is no matter of the crates that read.
 #[derive(Clone, Copy)]
 pub struct Listed<T>(pub T);
 
