@@ -7,12 +7,13 @@ ghost use Rattle.balances.specs.Stages.{settled_balances};
 
 use self::adding::{add_entries, all_within, place};
 use booking::entries::Entries;
+use booking::limits::{MOST_ACCOUNTS, MOST_COMMODITIES};
 use refusal::Refusal;
 use std::marker::Model;
 
 mod adding;
 
-pub const PLACES: usize = 1024;
+pub const PLACES: usize = MOST_ACCOUNTS * MOST_COMMODITIES;
 
 #[derive(Drop)]
 pub struct Balances {

@@ -7,16 +7,12 @@ ghost use Rattle.books.specs.Lookups.{commodity_number, account_number, open_acc
 ghost use Rattle.books.specs.Changes as books;
 ghost use Rattle.chart.specs.Changes.{no_names, with_commodity, with_account, with_closed, account_added};
 
+use booking::limits::{MOST_ACCOUNTS, MOST_COMMODITIES};
 use books::account::Account;
 use books::name::Name;
 use bounded::list::Bounded;
 use std::marker::Model;
 use values::names::is_under;
-
-// The most commodities, and the most accounts that are ever opened.
-pub const MOST_COMMODITIES: usize = 16;
-
-pub const MOST_ACCOUNTS: usize = 64;
 
 #[derive(Drop)]
 pub struct Chart {

@@ -10,6 +10,7 @@ ghost use Rattle.books.specs.States.{empty_ledger};
 ghost use Rattle.holdings.specs.Bounds.{most_in_lots, largest_holding};
 
 use balances::table::Balances;
+use booking::limits::MOST_COMMODITIES;
 use books::account::Account;
 use chart::table::Chart;
 use matching::search::units_matching;
@@ -17,9 +18,6 @@ use matching::wanted::Wanted;
 use std::marker::Model;
 use stock::table::LotTable;
 use values::names::is_under;
-
-// Commodities are counted from 1 up to this.
-const MOST_COMMODITIES: u8 = 16;
 
 #[derive(Drop)]
 pub struct Holdings {
@@ -103,7 +101,7 @@ impl Holdings {
         ensures { result ≡ no_plain_balance self.now account 16 }
     {
         // no `all`: the definition goes from the last commodity down
-        for commodity in 1..=MOST_COMMODITIES {
+        for commodity in 1..=MOST_COMMODITIES as u8 {
             if !self.is_zero(account, commodity) {
                 return false;
             }

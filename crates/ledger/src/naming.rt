@@ -20,7 +20,7 @@ ghost use Rattle.ledger.specs.Kept.{in_state};
 use crate::Ledger;
 use crate::fault::reported;
 use crate::rank::Rank;
-use chart::table::{MOST_ACCOUNTS, MOST_COMMODITIES};
+use booking::limits::{MOST_ACCOUNTS, MOST_COMMODITIES};
 use drafting::checks::{check_account_name, check_commodity_name, check_date, refuse_unless};
 use lots::policy::Policy;
 use refusal::{Fault, Refusal};

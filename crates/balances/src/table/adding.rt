@@ -6,8 +6,7 @@ ghost use Rattle.balances.specs.Bounds.{Near};
 use super::PLACES;
 use booking::entries::Entries;
 use booking::entry::EntryKind;
-
-const COMMODITIES: usize = 16;
+use booking::limits::MOST_COMMODITIES;
 
 // The largest plain balance in size, in hundredths.
 const LARGEST: u64 = 6_100_000_000_000;
@@ -16,7 +15,7 @@ const LARGEST: u64 = 6_100_000_000_000;
 pub(super) fn place(account: u16, commodity: u8) -> usize
     ensures { result ≡ balance_place account commodity }
 {
-    COMMODITIES * (account as usize).saturating_sub(1) + (commodity as usize).saturating_sub(1)
+    MOST_COMMODITIES * (account as usize).saturating_sub(1) + (commodity as usize).saturating_sub(1)
 }
 
 // An amount more for an account in a commodity; one that has no place gets none.
