@@ -58,8 +58,7 @@ impl<P: Policy> Ledger<P> {
         ensures number { result ≡ length self.old.state.names.commodities + 1 }
         ensures named { self.new ≡ in_state self.old (with_names self.old.state (with_commodity self.old.state.names name.now) date 0) }
     {
-        let number = self.chart.commodities() as u8 + 1;
-        self.chart.declare(name);
+        let number = self.chart.declare(name);
         self.accept(date, Rank::Naming);
         number
     }
@@ -117,8 +116,7 @@ impl<P: Policy> Ledger<P> {
         ensures number { result ≡ length self.old.state.names.accounts + 1 }
         ensures named { self.new ≡ in_state self.old (with_names self.old.state (account_added name.now own self.old.state.names) date 0) }
     {
-        let number = self.chart.accounts() as u16 + 1;
-        self.chart.open(name, own);
+        let number = self.chart.open(name, own);
         self.accept(date, Rank::Naming);
         number
     }
