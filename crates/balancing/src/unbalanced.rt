@@ -33,9 +33,7 @@ impl Unbalanced {
 pub fn unbalanced_in(entries: &Entries) -> Unbalanced
     ensures { result ≡ summary (weight_sum entries.now) (unbalanced_in entries.now) }
 {
-    let mut found = Unbalanced::Nothing;
-    for commodity in 1..=MOST_COMMODITIES as u8 {
-        found = found.and_commodity(commodity, weight_sum(entries, commodity));
-    }
-    found
+    (1..=MOST_COMMODITIES as u8).fold(Unbalanced::Nothing, |found, commodity| {
+        found.and_commodity(commodity, weight_sum(entries, commodity))
+    })
 }
