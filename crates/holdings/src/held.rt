@@ -100,13 +100,9 @@ impl Holdings {
     fn no_plain_balance(&self, account: u16) -> bool
         ensures { result ≡ no_plain_balance self.now account 16 }
     {
-        // no `all`: the definition goes from the last commodity down
-        for commodity in 1..=MOST_COMMODITIES as u8 {
-            if !self.is_zero(account, commodity) {
-                return false;
-            }
-        }
-        true
+        (1..=MOST_COMMODITIES as u8)
+            .rev()
+            .all(|commodity| self.is_zero(account, commodity))
     }
 
     // Whether an account has no open lot and no plain balance but 0.
@@ -135,8 +131,8 @@ impl Holdings {
     {
         let mut sum = 0;
         // no `sum`: it would owe that each sum on the way fits, which hangs on how many accounts there are
-        for (i, account) in accounts.iter().enumerate() {
-            sum += self.holding_if_under(account, i as u16 + 1, name, commodity);
+        for (number, account) in (1u16..).zip(accounts) {
+            sum += self.holding_if_under(account, number, name, commodity);
         }
         sum
     }
