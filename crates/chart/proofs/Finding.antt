@@ -1,7 +1,7 @@
 -- The number of the first that passes, from its place.
-use Rattle.std.proofs.Common.{◌≡◌, ℕ, ◌+◌, Bool, true, false, List, [], ◌∷◌, Option, Bor, refl, ap, ◌∙◌, ⊎_elim}
+use Rattle.std.proofs.Common.{◌≡◌, ℕ, ◌+◌, Bool, List, [], ◌∷◌, Option, Bor, refl, ap, ◌∙◌, arith}
 use Rattle.std.proofs.iter.Yields.{fronts}
-use Rattle.std.proofs.lemmas.Bool.{cases_Bool}
+use Rattle.std.proofs.lemmas.Grind.{common_steps}
 use Rattle.std.proofs.lemmas.Iterator.{YieldsList-from_slice}
 use Rattle.std.proofs.lemmas.Iterator.Adapters.{position_from-zero}
 use Rattle.std.proofs.lemmas.Iterator.Search.{position_from_yields_List}
@@ -14,11 +14,7 @@ use Rattle.std.specs.Slice.Iter.{iter_rest}
 module _ {X : Type 0} (test : X → Bool) where
   counted_on : (n : ℕ) (xs : List X) → option_map (λ i. i + 1) (position_from test n xs) ≡ position_from test (n + 1) xs
   counted_on n [] = refl
-  counted_on n (x ∷ xs) =
-      ⊎_elim
-      (λ (e : test x ≡ true). rw e refl)
-      (λ (e : test x ≡ false). rw e (counted_on (n + 1) xs))
-      (cases_Bool (test x))
+  counted_on n (x ∷ xs) = let ih = counted_on (n + 1) xs in grind (arith, common_steps)
 
   -- what `position` answers over a slice, counted from 1
   pub number_found : {F : Type 0} {g : _} {s t : _} {f : F} {place number : Option ℕ} (xs : List X) → FindsPosition fronts g s f place t → iter_rest s ≡ xs → ((x : Bor X) (b : Bool) (q : F) → Called g f (x, tt) b q → (q ≡ f) × (b ≡ test x.now)) → number ≡ option_map (λ i. i + 1) place → number ≡ position_from test 1 xs

@@ -139,6 +139,7 @@ impl Chart {
     }
 
     // One more commodity, unless there are 16; answers its number, or one that no commodity has.
+    #[tactic(auto, using(crate::proofs::Whole::commodity_whole))]
     pub fn declare(&mut self, name: &[u8]) -> u8
         ensures number { result ≡ length self.old.commodities + 1 }
         ensures defined { self.new ≡ with_commodity name.now self.old }
@@ -150,6 +151,7 @@ impl Chart {
     }
 
     // One more account, unless there are 64; answers its number, or one that no account has.
+    #[tactic(auto, using(crate::proofs::Whole::account_whole))]
     pub fn open(&mut self, name: &[u8], own: Option<u8>) -> u16
         ensures number { result ≡ length self.old.accounts + 1 }
         ensures defined { self.new ≡ with_account name.now own self.old }
