@@ -1,7 +1,8 @@
 -- What a host may rely on: a slip that was just handed out is the draft's, and its draft can be torn.
-use Rattle.std.proofs.Common.{◌≡◌, ℕ, ◌+◌, Bool, true, false, not, ◌&&◌, eqb, List, is_some, Some, None, Option, sym, refl, ap, ◌∙◌, subst, arith}
+use Rattle.std.proofs.Common.{◌≡◌, ℕ, ◌+◌, true, false, List, is_some, Some, None, Option, sym, refl, ap, subst, arith}
 use Rattle.std.specs.Option.{option_map}
-use Rattle.std.proofs.lemmas.Bool.{cond-false, not_from_true, eq-eqb}
+use Rattle.std.proofs.lemmas.Bool.Decides.{nat_tests}
+use Rattle.std.proofs.lemmas.Bool.{cond-false}
 use Rattle.refusal.specs.declared.Refusal.TheVariants.{NoSuchDraft}
 use Rattle.refusal.specs.declared.Fault.{Fault}
 use Rattle.values.specs.declared.flag.Flag.{Flag}
@@ -23,8 +24,7 @@ pub record HoldsSlip (s : State) (slip : ℕ) : Type 0 where
   pub number : slip ≡ s.transactions + 1
 
 has_draft : (s : State) (slip : ℕ) → HoldsSlip s slip → no_such_draft s slip ≡ false
-has_draft s slip held =
-    ap (λ (b : Bool). not (b && eqb slip (s.transactions + 1))) held.under_way ∙ not_from_true (eqb slip (s.transactions + 1)) (eq-eqb slip (s.transactions + 1) held.number)
+has_draft s slip held = rw held.under_way (grind (arith, nat_tests))
 
 -- such a slip tears its draft
 pub can_tear : (o : Order) (s : State) (slip : ℕ) → HoldsSlip s slip → step o s (tearing slip) ≡ (Done, with_draft s None)
@@ -36,7 +36,7 @@ begun_holds o s source date flag slip e = by (refusal o s (beginning source date
   where
     by : (r : Option Fault) → (answered o s (beginning source date flag) r).0 ≡ Begun slip → HoldsSlip (answered o s (beginning source date flag) r).1 slip
     by None e = record { under_way = refl; number = sym (cc) }
-    by (Some f) e = let z : ◌≡◌ {A = ℕ} 0 1 = cc in absurd (omega arith)
+    by (Some f) e = cc
 
 -- posting keeps it, accepted or refused
 pub posted_holds : (o : Order) (s : State) (slip other source : ℕ) (account : List ℕ) (amount : Option AmountGiven) → HoldsSlip s slip → HoldsSlip (step o s (posting other source account amount)).1 slip

@@ -34,7 +34,7 @@ module _ {P : Type 0} (order : P → Order) (l : Kept P) (c : Call) (line : ℕ)
     where
       by : (out : Result Y Fault) (r : Option Refusal) → first_met ts ≡ r → checked ≡ unless r x → Err f ≡ result_map_both (λ z. z) (fault_at line) checked → IsErrAnd out (λ e. e ≡ f) → (outcome_of accepted out, l) ≡ carried_out order l c
       by (Ok y) r met is told same = absurd same
-      by (Err e) None met is told same = let z : ◌≡◌ {A = ℕ} 0 1 = cc in absurd (omega arith)
+      by (Err e) None met is told same = cc
       by (Err e) (Some r) met is told same = let z : e ≡ fault_at line r = cc in rw z (by_refusal (Some r) met)
 
   pub call_accepted : {X : Type 0} {y : X} {checked : Result X Refusal} {out : Outcome} {k : Kept P} {t : State} (x : X) → checked ≡ unless (first_met ts) x → Ok y ≡ result_map_both (λ z. z) (fault_at line) checked → out ≡ reply l.state c → k ≡ in_state l t → (y ≡ x → t ≡ change (order l.policy) l.state c) → (out, k) ≡ carried_out order l c
@@ -42,4 +42,4 @@ module _ {P : Type 0} (order : P → Order) (l : Kept P) (c : Call) (line : ℕ)
     where
       by : (r : Option Refusal) → first_met ts ≡ r → checked ≡ unless r x → Ok y ≡ result_map_both (λ z. z) (fault_at line) checked → out ≡ reply l.state c → k ≡ in_state l t → (y ≡ x → t ≡ change (order l.policy) l.state c) → (out, k) ≡ carried_out order l c
       by None met is told replied left changed = rw (replied, left, changed (cc)) (by_refusal None met)
-      by (Some r) met is told replied left changed = let z : ◌≡◌ {A = ℕ} 0 1 = cc in absurd (omega arith)
+      by (Some r) met is told replied left changed = cc
