@@ -53,6 +53,7 @@ impl Balances {
     }
 
     // The balances after the entries of a draft; 27 where one would be too large.
+    #[tactic(auto, using(crate::proofs::Bounds::near_none))]
     pub fn after(&self, entries: &Entries) -> Result<Balances, Refusal>
         ensures { result ≡ settled_balances self.now entries.now }
     {

@@ -51,6 +51,7 @@ impl Holdings {
     }
 
     // The units of an account's open lots of a commodity.
+    #[tactic(auto, using(crate::proofs::Bounds::kept_few))]
     fn units_in_lots(&self, account: u16, commodity: u8) -> i64
         ensures value { result ≡ pos (units_in_lots self.now account commodity) }
         ensures small { unsigned_abs result ≤ most_in_lots }
