@@ -15,6 +15,8 @@ mod adding;
 
 pub const PLACES: usize = MOST_ACCOUNTS * MOST_COMMODITIES;
 
+// One array: a balance has its place for all numbers, so that a commodity past the last is one of the next account. An array for
+// each account would answer 0 there, which the definition does not.
 #[derive(Drop)]
 pub struct Balances {
     places: [i64; PLACES],

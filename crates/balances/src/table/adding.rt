@@ -11,7 +11,9 @@ use booking::limits::MOST_COMMODITIES;
 // The largest plain balance in size, in hundredths.
 const LARGEST: u64 = 6_100_000_000_000;
 
-// Where the balance of an account in a commodity stands; both are counted from 1.
+// Where the balance of an account in a commodity stands; both are counted from 1. They are no struct, here and in what stands on it:
+// callers have two figures, definitions take two, and entries and keys hold them among others, so that each call would only make
+// a pair and take it apart.
 pub(super) fn place(account: u16, commodity: u8) -> usize
     ensures { result ≡ balance_place account commodity }
 {
