@@ -1,5 +1,5 @@
 -- A call whose table is checked first: refused it answers the first refusal that is met, else it is carried out.
-use Rattle.std.proofs.Common.{◌≡◌, ℕ, Bool, List, Some, None, Ok, Err, Option, Result, refl, sym, ap, ◌∙◌, arith}
+use Rattle.std.proofs.Common.{◌≡◌, ℕ, Bool, List, Some, None, Ok, Err, Option, Result, refl, sym, ap, ◌∙◌}
 use Rattle.std.specs.Result.{result_map_both, IsErrAnd}
 use Rattle.refusal.specs.declared.Refusal.{Refusal}
 use Rattle.refusal.specs.declared.Fault.{Fault}

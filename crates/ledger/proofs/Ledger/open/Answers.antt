@@ -1,18 +1,10 @@
-use Rattle.std.proofs.Common.{◌≡◌, ℕ, List, Some, None, Option, Bor, refl, ap, ◌∙◌, option_map}
+use Rattle.std.proofs.Common.{ap, option_map, arith}
+use Rattle.std.proofs.lemmas.Grind.{common_steps}
 use Rattle.books.specs.Calls.{opening}
-use Rattle.books.specs.Changes.{with_names}
-use Rattle.books.specs.States.{Names}
-use Rattle.books.specs.Lookups.{commodity_number, number_or_0}
 use Rattle.books.specs.declared.outcome.Outcome.TheVariants.{Opened}
-use Rattle.chart.specs.Changes.{account_added}
 use Rattle.ledger.specs.CallTables.{opening_tests}
 use Rattle.ledger.proofs.Answering.{opening_table, call_refused, call_accepted}
 use Rattle.ledger.proofs.Ledger.open.Goals as goal
-
--- the number of what is named
-named : (k : Names) (own : Option (Bor (List ℕ))) → option_map (λ c. number_or_0 (commodity_number k c.now)) own ≡ option_map (λ c. number_or_0 (commodity_number k c)) (option_map (λ n. n.now) own)
-named k None = refl
-named k (Some n) = refl
 
 pub returns-in_err-own : goal.returns-in_err-own
 returns-in_err-own g c =
@@ -28,4 +20,4 @@ returns g c =
     let s = a.self.now.state in
     let own = option_map (λ n. n.now) a.own in
     let ts = opening_tests s a.date a.name.now own in
-    call_accepted g.P.Policy.order a.self.now (opening a.source a.date a.name.now own) a.source ts (opening_table (g.P.Policy.order a.self.now.policy) s a.source a.date a.name.now own) _ c.check_opening.ensures.checked c.in_ok-own.ensures (ap Opened c.add_account.ensures.number) c.add_account.ensures.named (λ e. ap (λ own. with_names s (account_added a.name.now own s.names) a.date 0) (e ∙ named s.names a.own))
+    call_accepted g.P.Policy.order a.self.now (opening a.source a.date a.name.now own) a.source ts (opening_table (g.P.Policy.order a.self.now.policy) s a.source a.date a.name.now own) _ c.check_opening.ensures.checked c.in_ok-own.ensures (ap Opened c.add_account.ensures.number) c.add_account.ensures.named (λ e. grind (arith, common_steps, e))
