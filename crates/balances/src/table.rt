@@ -7,13 +7,16 @@ ghost use Rattle.balances.specs.Stages.{settled_balances};
 
 use self::adding::{add_entries, all_within, place};
 use booking::entries::Entries;
+use booking::limits::{MOST_ACCOUNTS, MOST_COMMODITIES};
 use refusal::Refusal;
 use std::marker::Model;
 
 mod adding;
 
-pub const PLACES: usize = 1024;
+pub const PLACES: usize = MOST_ACCOUNTS * MOST_COMMODITIES;
 
+// One array: a balance has its place for all numbers, so that a commodity past the last is one of the next account. An array for
+// each account would answer 0 there, which the definition does not.
 #[derive(Drop)]
 pub struct Balances {
     places: [i64; PLACES],
@@ -52,6 +55,7 @@ impl Balances {
     }
 
     // The balances after the entries of a draft; 27 where one would be too large.
+    #[tactic(auto, using(crate::proofs::Bounds::near_none))]
     pub fn after(&self, entries: &Entries) -> Result<Balances, Refusal>
         ensures { result ≡ settled_balances self.now entries.now }
     {

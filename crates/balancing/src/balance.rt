@@ -8,17 +8,15 @@ use crate::unbalanced::{Unbalanced, unbalanced_in};
 use booking::entries::Entries;
 use booking::entry::Entry;
 use booking::posting::Posting;
+use lots::lot::MOST;
 use refusal::Refusal;
 
-// The largest amount in size, in hundredths.
-const LARGEST_AMOUNT: u128 = 99_999_999;
-
-// A sum of weights divided by -100, if that is whole and an amount.
+// A sum of weights divided by -100, if that is whole and an amount: one is no larger in size than the most units of a lot.
 fn amount_for(sum: i128) -> Option<i32>
     ensures { result ≡ amount_for sum }
 {
     let size = sum.unsigned_abs();
-    if size % 100 != 0 || size / 100 > LARGEST_AMOUNT {
+    if size % 100 != 0 || size / 100 > u128::from(MOST) {
         return None;
     }
     let amount = (size / 100) as i32;

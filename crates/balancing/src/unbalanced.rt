@@ -5,9 +5,7 @@ ghost use Rattle.balancing.specs.Summary.{summary, and_commodity};
 
 use crate::sums::weight_sum;
 use booking::entries::Entries;
-
-// The most commodities; they are counted from 1.
-const COMMODITIES: u8 = 16;
+use booking::limits::MOST_COMMODITIES;
 
 // None, one with what its weights sum to, or several.
 #[derive(Clone, Copy, PartialEq, Eq, Debug)]
@@ -35,9 +33,7 @@ impl Unbalanced {
 pub fn unbalanced_in(entries: &Entries) -> Unbalanced
     ensures { result ≡ summary (weight_sum entries.now) (unbalanced_in entries.now) }
 {
-    let mut found = Unbalanced::Nothing;
-    for commodity in 1..=COMMODITIES {
-        found = found.and_commodity(commodity, weight_sum(entries, commodity));
-    }
-    found
+    (1..=MOST_COMMODITIES as u8).fold(Unbalanced::Nothing, |found, commodity| {
+        found.and_commodity(commodity, weight_sum(entries, commodity))
+    })
 }

@@ -1,5 +1,5 @@
 -- A call that is lent the front of a record leaves the record as if it were lent all of it: it writes only where there is room.
-use Rattle.std.proofs.Common.{◌≡◌, ℕ, ◌+◌, ◌≤◌, List, ◌++◌, length, take, drop, sym, ap, ◌∙◌, arith}
+use Rattle.std.proofs.Common.{◌≡◌, ℕ, ◌+◌, ◌≤◌, List, ◌++◌, length, ap, ◌∙◌, arith}
 use Rattle.std.proofs.lemmas.List.{append_assoc, length-append, length-take, length-drop, take-append-le, drop-append-le}
 use Rattle.record.specs.declared.header.Header.{Header}
 use Rattle.record.specs.declared.rows.Row.{Row}
@@ -7,11 +7,7 @@ use Rattle.record.specs.Layout.{header_length, first_free, rows_bytes, header_by
 use Rattle.record.proofs.Written.{rows_bytes_length}
 
 write_in_front : (front rest new : List ℕ) (at : ℕ) → at + length new ≤ length front → write_at (front ++ rest) at new ≡ write_at front at new ++ rest
-write_in_front front rest new at fits =
-    ap (λ xs. xs ++ (new ++ drop (at + length new) (front ++ rest))) (take-append-le at front rest (omega arith))
-    ∙ ap (λ xs. take at front ++ (new ++ xs)) (drop-append-le (at + length new) front rest fits)
-    ∙ ap (λ xs. take at front ++ xs) (sym (append_assoc new (drop (at + length new) front) rest))
-    ∙ sym (append_assoc (take at front) (new ++ drop (at + length new) front) rest)
+write_in_front front rest new at fits = let before : at ≤ length front = omega arith in simp (take-append-le, drop-append-le, append_assoc)
 
 write_keeps_length : (book new : List ℕ) (at : ℕ) → at + length new ≤ length book → length (write_at book at new) ≡ length book
 write_keeps_length book new at fits = simp (length-append, length-take, length-drop) (omega arith)

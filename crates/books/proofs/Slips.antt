@@ -1,20 +1,16 @@
 -- What a host may rely on: a slip that was just handed out is the draft's, and its draft can be torn.
-use Rattle.std.proofs.Common.{◌≡◌, ℕ, ◌+◌, Bool, true, false, not, ◌&&◌, eqb, List, is_some, Some, None, Option, sym, refl, ap, ◌∙◌, subst, arith}
-use Rattle.std.specs.Option.{option_map}
-use Rattle.std.proofs.lemmas.Bool.{cond-false, not_from_true, eq-eqb}
-use Rattle.refusal.specs.declared.Refusal.TheVariants.{NoSuchDraft}
+use Rattle.std.proofs.Common.{◌≡◌, ℕ, ◌+◌, true, false, List, is_some, Some, None, Option, refl, arith}
+use Rattle.std.proofs.lemmas.Bool.Decides.{nat_tests}
+use Rattle.std.proofs.lemmas.Grind.{common_steps}
 use Rattle.refusal.specs.declared.Fault.{Fault}
 use Rattle.values.specs.declared.flag.Flag.{Flag}
 use Rattle.lots.specs.Orders.{Order}
-use Rattle.booking.specs.declared.posting.Posting.{Posting}
-use Rattle.refusal.specs.Faults.{fault_at}
 use Rattle.books.specs.declared.outcome.Outcome.TheVariants.{Begun, Done}
-use Rattle.booking.specs.declared.draft.Draft.{Draft}
 use Rattle.books.specs.States.{State}
 use Rattle.books.specs.Calls.{beginning, posting, settling, tearing, AmountGiven}
 use Rattle.books.specs.Conditions.{no_such_draft}
 use Rattle.books.specs.Refusals.{refusal}
-use Rattle.books.specs.Changes.{with_draft, posting_of, with_posting}
+use Rattle.books.specs.Changes.{with_draft}
 use Rattle.books.specs.Steps.{answered, step}
 
 -- a draft is under way, and this is its slip's number
@@ -23,33 +19,28 @@ pub record HoldsSlip (s : State) (slip : ℕ) : Type 0 where
   pub number : slip ≡ s.transactions + 1
 
 has_draft : (s : State) (slip : ℕ) → HoldsSlip s slip → no_such_draft s slip ≡ false
-has_draft s slip held =
-    ap (λ (b : Bool). not (b && eqb slip (s.transactions + 1))) held.under_way ∙ not_from_true (eqb slip (s.transactions + 1)) (eq-eqb slip (s.transactions + 1) held.number)
+has_draft s slip held = rw held.under_way (grind (arith, nat_tests))
 
 -- such a slip tears its draft
 pub can_tear : (o : Order) (s : State) (slip : ℕ) → HoldsSlip s slip → step o s (tearing slip) ≡ (Done, with_draft s None)
-can_tear o s slip held = ap (answered o s (tearing slip)) (cond-false (no_such_draft s slip) (Some (fault_at 0 NoSuchDraft)) None (has_draft s slip held))
+can_tear o s slip held = rw (has_draft s slip held) refl
 
 -- a beginning that is accepted hands one out
 pub begun_holds : (o : Order) (s : State) (source date : ℕ) (flag : Flag) (slip : ℕ) → (step o s (beginning source date flag)).0 ≡ Begun slip → HoldsSlip (step o s (beginning source date flag)).1 slip
 begun_holds o s source date flag slip e = by (refusal o s (beginning source date flag)) e
   where
     by : (r : Option Fault) → (answered o s (beginning source date flag) r).0 ≡ Begun slip → HoldsSlip (answered o s (beginning source date flag) r).1 slip
-    by None e = record { under_way = refl; number = sym (cc) }
-    by (Some f) e = let z : ◌≡◌ {A = ℕ} 0 1 = cc in absurd (omega arith)
+    by None e = record { under_way = refl; number = cc }
+    by (Some f) e = cc
 
 -- posting keeps it, accepted or refused
 pub posted_holds : (o : Order) (s : State) (slip other source : ℕ) (account : List ℕ) (amount : Option AmountGiven) → HoldsSlip s slip → HoldsSlip (step o s (posting other source account amount)).1 slip
 posted_holds o s slip other source account amount held = by (refusal o s (posting other source account amount))
   where
-    still : (p : Posting) (d : Option Draft) → is_some d ≡ true → is_some (option_map (with_posting p) d) ≡ true
-    still p None e = e
-    still p (Some d) e = refl
-
     by : (r : Option Fault) → HoldsSlip (answered o s (posting other source account amount) r).1 slip
-    by None = record { under_way = still (posting_of s.names source account amount) s.draft held.under_way; number = held.number }
+    by None = record { under_way = grind (arith, common_steps, held.under_way); number = held.number }
     by (Some f) = held
 
 -- a settling that is refused gives it back
 pub refused_holds : (o : Order) (s : State) (slip lent : ℕ) (f : Fault) → HoldsSlip s slip → refusal o s (settling slip lent) ≡ Some f → HoldsSlip (step o s (settling slip lent)).1 slip
-refused_holds o s slip lent f held e = subst (λ (r : Option Fault). HoldsSlip (answered o s (settling slip lent) r).1 slip) (sym e) held
+refused_holds o s slip lent f held e = rw e held

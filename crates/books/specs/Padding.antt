@@ -1,4 +1,5 @@
--- A text of at most 48 bytes, kept in 48 places with zeros behind it.
+-- A text of at most 48 bytes, kept in 48 places with zeros behind it. The lemmas stand here and not in proofs/, since the model of a
+-- name cites them, and an `impl` may name nothing of its own crate but specs/.
 use Rattle.std.specs.Prelude.{◌≡◌, ℕ, ◌-◌, ◌≤◌, List, ◌++◌, length, take, drop, replicate}
 use Rattle.std.proofs.Common.{sym, ap, ◌∙◌, arith, take-append-drop, length-take-le}
 

@@ -7,16 +7,12 @@ ghost use Rattle.books.specs.Lookups.{commodity_number, account_number, open_acc
 ghost use Rattle.books.specs.Changes as books;
 ghost use Rattle.chart.specs.Changes.{no_names, with_commodity, with_account, with_closed, account_added};
 
+use booking::limits::{MOST_ACCOUNTS, MOST_COMMODITIES};
 use books::account::Account;
 use books::name::Name;
 use bounded::list::Bounded;
 use std::marker::Model;
 use values::names::is_under;
-
-// The most commodities, and the most accounts that are ever opened.
-pub const MOST_COMMODITIES: usize = 16;
-
-pub const MOST_ACCOUNTS: usize = 64;
 
 #[derive(Drop)]
 pub struct Chart {
@@ -32,16 +28,17 @@ impl Model for Chart {
     ghost view = { λ c. record { commodities = c.commodities; accounts = c.accounts } };
 }
 
-// The numbers of the commodity and of the account at a place: both are counted from 1.
+// The numbers of the commodity and of the account at a place, or of the next one: both are counted from 1.
+// Two functions, since a generic one would need a trait for the cast.
 fn commodity_at(place: usize) -> u8
-    requires { place < 16 }
+    requires { place ≤ 16 }
     ensures { result ≡ place + 1 }
 {
     place as u8 + 1
 }
 
 fn account_at(place: usize) -> u16
-    requires { place < 64 }
+    requires { place ≤ 64 }
     ensures { result ≡ place + 1 }
 {
     place as u16 + 1
@@ -103,7 +100,8 @@ impl Chart {
     }
 
     pub fn commodities(&self) -> usize
-        ensures { result ≡ length self.now.commodities }
+        ensures counted { result ≡ length self.now.commodities }
+        ensures few { result ≤ 16 }
     {
         self.commodities.as_slice().len()
     }
@@ -117,7 +115,8 @@ impl Chart {
     }
 
     pub fn accounts(&self) -> usize
-        ensures { result ≡ length self.now.accounts }
+        ensures counted { result ≡ length self.now.accounts }
+        ensures few { result ≤ 64 }
     {
         self.account_list().len()
     }
@@ -139,24 +138,32 @@ impl Chart {
         }
     }
 
-    // One more commodity, unless there are 16.
-    pub fn declare(&mut self, name: &[u8])
+    // One more commodity, unless there are 16; answers its number, or one that no commodity has.
+    #[tactic(auto, using(crate::proofs::Whole::commodity_whole))]
+    pub fn declare(&mut self, name: &[u8]) -> u8
+        ensures number { result ≡ length self.old.commodities + 1 }
         ensures defined { self.new ≡ with_commodity name.now self.old }
         ensures allowed { is_commodity_name name.now ≡ true → commodities_full self.old ≡ false → self.new ≡ books.with_commodity self.old name.now }
     {
+        let number = commodity_at(self.commodities());
         let _ = self.commodities.push(Name::new(name));
+        number
     }
 
-    // One more account, unless there are 64.
-    pub fn open(&mut self, name: &[u8], own: Option<u8>)
+    // One more account, unless there are 64; answers its number, or one that no account has.
+    #[tactic(auto, using(crate::proofs::Whole::account_whole))]
+    pub fn open(&mut self, name: &[u8], own: Option<u8>) -> u16
+        ensures number { result ≡ length self.old.accounts + 1 }
         ensures defined { self.new ≡ with_account name.now own self.old }
         ensures allowed { is_account_name name.now ≡ true → accounts_full self.old ≡ false → self.new ≡ account_added name.now own self.old }
     {
+        let number = account_at(self.accounts());
         let _ = self.accounts.push(Account {
             name: Name::new(name),
             own,
             is_open: true,
         });
+        number
     }
 
     // The account of a number is open no more.

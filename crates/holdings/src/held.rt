@@ -10,6 +10,7 @@ ghost use Rattle.books.specs.States.{empty_ledger};
 ghost use Rattle.holdings.specs.Bounds.{most_in_lots, largest_holding};
 
 use balances::table::Balances;
+use booking::limits::MOST_COMMODITIES;
 use books::account::Account;
 use chart::table::Chart;
 use matching::search::units_matching;
@@ -17,9 +18,6 @@ use matching::wanted::Wanted;
 use std::marker::Model;
 use stock::table::LotTable;
 use values::names::is_under;
-
-// Commodities are counted from 1 up to this.
-const MOST_COMMODITIES: u8 = 16;
 
 #[derive(Drop)]
 pub struct Holdings {
@@ -53,6 +51,7 @@ impl Holdings {
     }
 
     // The units of an account's open lots of a commodity.
+    #[tactic(auto, using(crate::proofs::Bounds::kept_few))]
     fn units_in_lots(&self, account: u16, commodity: u8) -> i64
         ensures value { result ≡ pos (units_in_lots self.now account commodity) }
         ensures small { unsigned_abs result ≤ most_in_lots }
@@ -102,13 +101,9 @@ impl Holdings {
     fn no_plain_balance(&self, account: u16) -> bool
         ensures { result ≡ no_plain_balance self.now account 16 }
     {
-        // no `all`: the definition goes from the last commodity down
-        for commodity in 1..=MOST_COMMODITIES {
-            if !self.is_zero(account, commodity) {
-                return false;
-            }
-        }
-        true
+        (1..=MOST_COMMODITIES as u8)
+            .rev()
+            .all(|commodity| self.is_zero(account, commodity))
     }
 
     // Whether an account has no open lot and no plain balance but 0.
@@ -137,8 +132,8 @@ impl Holdings {
     {
         let mut sum = 0;
         // no `sum`: it would owe that each sum on the way fits, which hangs on how many accounts there are
-        for (i, account) in accounts.iter().enumerate() {
-            sum += self.holding_if_under(account, i as u16 + 1, name, commodity);
+        for (number, account) in (1u16..).zip(accounts) {
+            sum += self.holding_if_under(account, number, name, commodity);
         }
         sum
     }

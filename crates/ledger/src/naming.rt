@@ -20,7 +20,7 @@ ghost use Rattle.ledger.specs.Kept.{in_state};
 use crate::Ledger;
 use crate::fault::reported;
 use crate::rank::Rank;
-use chart::table::{MOST_ACCOUNTS, MOST_COMMODITIES};
+use booking::limits::{MOST_ACCOUNTS, MOST_COMMODITIES};
 use drafting::checks::{check_account_name, check_commodity_name, check_date, refuse_unless};
 use lots::policy::Policy;
 use refusal::{Fault, Refusal};
@@ -58,8 +58,7 @@ impl<P: Policy> Ledger<P> {
         ensures number { result ≡ length self.old.state.names.commodities + 1 }
         ensures named { self.new ≡ in_state self.old (with_names self.old.state (with_commodity self.old.state.names name.now) date 0) }
     {
-        let number = self.chart.commodities() as u8 + 1;
-        self.chart.declare(name);
+        let number = self.chart.declare(name);
         self.accept(date, Rank::Naming);
         number
     }
@@ -117,8 +116,7 @@ impl<P: Policy> Ledger<P> {
         ensures number { result ≡ length self.old.state.names.accounts + 1 }
         ensures named { self.new ≡ in_state self.old (with_names self.old.state (account_added name.now own self.old.state.names) date 0) }
     {
-        let number = self.chart.accounts() as u16 + 1;
-        self.chart.open(name, own);
+        let number = self.chart.open(name, own);
         self.accept(date, Rank::Naming);
         number
     }

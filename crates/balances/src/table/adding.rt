@@ -6,17 +6,18 @@ ghost use Rattle.balances.specs.Bounds.{Near};
 use super::PLACES;
 use booking::entries::Entries;
 use booking::entry::EntryKind;
-
-const COMMODITIES: usize = 16;
+use booking::limits::MOST_COMMODITIES;
 
 // The largest plain balance in size, in hundredths.
 const LARGEST: u64 = 6_100_000_000_000;
 
-// Where the balance of an account in a commodity stands; both are counted from 1.
+// Where the balance of an account in a commodity stands; both are counted from 1. They are no struct, here and in what stands on it:
+// callers have two figures, definitions take two, and entries and keys hold them among others, so that each call would only make
+// a pair and take it apart.
 pub(super) fn place(account: u16, commodity: u8) -> usize
     ensures { result ≡ balance_place account commodity }
 {
-    COMMODITIES * (account as usize).saturating_sub(1) + (commodity as usize).saturating_sub(1)
+    MOST_COMMODITIES * (account as usize).saturating_sub(1) + (commodity as usize).saturating_sub(1)
 }
 
 // An amount more for an account in a commodity; one that has no place gets none.
@@ -54,6 +55,7 @@ fn add_kind(places: &mut [i64; PLACES], kind: &EntryKind)
 }
 
 // The balances after entries, one after another.
+#[tactic(auto, using(crate::proofs::Bounds::near_more))]
 pub(super) fn add_entries(places: &mut [i64; PLACES], entries: &Entries)
     requires { Near places.old 0 }
     ensures { places.new ≡ balances_after places.old entries.now }

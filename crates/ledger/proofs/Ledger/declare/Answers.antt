@@ -1,20 +1,12 @@
-use Rattle.std.proofs.Common.{Err, refl, ap, ◌∙◌}
-use Rattle.std.proofs.lemmas.Result.{err_from_is_err_and}
-use Rattle.std.specs.Result.{result_map_both}
-use Rattle.refusal.specs.Faults.{fault_at}
+use Rattle.std.proofs.Common.{refl}
 use Rattle.books.specs.Calls.{declaring}
 use Rattle.books.specs.declared.outcome.Outcome.TheVariants.{Declared}
-use Rattle.ledger.specs.Answers.{outcome_of}
 use Rattle.ledger.specs.CallTables.{declaring_tests}
-use Rattle.ledger.proofs.Answering.{by_table, call_refused}
+use Rattle.ledger.proofs.Answering.{call_refused}
 use Rattle.ledger.proofs.Ledger.declare.Goals as goal
 
 pub returns-in_err-reported : goal.returns-in_err-reported
 returns-in_err-reported g c =
-    let o = g.P.Policy.order c.args.self.now.policy in
-    let s = c.args.self.now.state in
-    let call = declaring c.args.source c.args.date c.args.name.now in
-    let ts = declaring_tests s c.args.date c.args.name.now in
-    let p = err_from_is_err_and c.from_residual.result c.from_residual.ensures.1 in
-    let told = c.in_err-reported.ensures ∙ ap (result_map_both (λ y. y) (fault_at c.args.source)) c.check_declaring.ensures.checked in
-    call_refused g.P.Policy.order c.args.self.now call c.args.source ts (by_table o s call c.args.source ts refl) (tt {0}) _ told _ (ap (outcome_of Declared) (p.1 ∙ ap Err p.2))
+    let a = c.args in
+    let ts = declaring_tests a.self.now.state a.date a.name.now in
+    call_refused g.P.Policy.order a.self.now (declaring a.source a.date a.name.now) a.source ts refl Declared _ _ c.check_declaring.ensures.checked c.in_err-reported.ensures c.from_residual.ensures.1

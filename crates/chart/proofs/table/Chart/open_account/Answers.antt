@@ -1,16 +1,9 @@
-use Rattle.std.proofs.Common.{◌≡◌, ◌+◌, ◌&&◌, option_map, ◌∙◌, rules}
-use Rattle.std.proofs.lemmas.Iterator.{YieldsList-from_slice}
-use Rattle.std.proofs.lemmas.Iterator.Search.{position_from_yields_List}
+use Rattle.std.proofs.Common.{◌&&◌, rules}
 use Rattle.std.specs.Str.{bytes_eq}
 use borrow.Author.Tests.{tests}
 use Rattle.books.specs.declared.account.Account.{Account}
-use Rattle.chart.proofs.Finding.{number_of_place}
+use Rattle.chart.proofs.Finding.{number_found}
 use Rattle.chart.proofs.table.Chart.open_account.Goals as goal
 
 pub returns : goal.returns
-returns c =
-    let test = λ (x : Account). x.is_open && bytes_eq x.name c.args.name.now in
-    let xs = c.account_list.result.now in
-    let at = position_from_yields_List test _ _ c.position.result c.position.ensures.ran (YieldsList-from_slice xs cc) (λ x b q k. search (rules, tests)) in
-    let counted : c.map.result ≡ option_map (λ i. i + 1) c.position.result = search rules in
-    counted ∙ number_of_place test xs _ c.position.result c.account_list.ensures.listed at
+returns c = number_found (λ (x : Account). x.is_open && bytes_eq x.name c.args.name.now) c.args.self.now.accounts c.position.ensures.ran (cc) (λ x b q k. search (rules, tests)) (search rules)
