@@ -1,4 +1,5 @@
 -- A filled blank makes the weights sum to 0, and changes nothing else.
+use Rattle.std.proofs.lemmas.Bool.Decides.{nat_tests}
 use Rattle.std.proofs.Common.{◌≡◌, ℕ, zero, suc, ◌≤◌, Bool, true, false, cond, not, ◌&&◌, eqb, ◌⊎◌, List, [], ◌∷◌, ℤ, pos, ◌+ℤ◌, ◌*ℤ◌, Option, sym, refl, ap, ◌∙◌, subst, inl, inr, ⊎_elim, arith}
 use Rattle.std.specs.List.{AllByRecursion}
 use Rattle.std.proofs.lemmas.Int.{ints}
@@ -112,11 +113,7 @@ module _ (own : Option ℕ) (es : List Entry) where
       (cases_eq d c))
       (λ (hb : has_blank es ≡ false). absurd (both_ways true (subst (λ (b : Bool). (not b && true) ≡ false) hb t25) refl))
       (cases_Bool (has_blank es))
-  filled_balances (d ∷ e ∷ us) listed t25 t26 c l m =
-      ⊎_elim
-      (λ (hb : has_blank es ≡ true). absurd (both_ways true (subst (λ (b : Bool). (b && true) ≡ false) hb t26) refl))
-      (λ (hb : has_blank es ≡ false). absurd (both_ways true (subst (λ (b : Bool). (not b && true) ≡ false) hb t25) refl))
-      (cases_Bool (has_blank es))
+  filled_balances (d ∷ e ∷ us) listed t25 t26 c l m = grind (arith, nat_tests)
 
   -- a draft that meets neither 25 nor 26 is balanced once its blank is filled
   pub complete_balances : (not (has_blank es) && not (is_empty (unbalanced_in es))) ≡ false → (has_blank es && not (can_fill own (weight_sum es) (unbalanced_in es))) ≡ false

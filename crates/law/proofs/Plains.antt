@@ -1,7 +1,6 @@
 -- Plain balances are what entries bring.
-use Rattle.std.proofs.Common.{◌≡◌, ℕ, zero, suc, ◌<◌, ◌≤◌, cond, eqb, leb, List, [], ◌∷◌, length, ℤ, pos, ◌+ℤ◌, ◌*ℤ◌, refl, ◌∙◌, arith, length-set}
+use Rattle.std.proofs.Common.{rules, tests, ◌≡◌, ℕ, zero, suc, ◌≤◌, cond, eqb, leb, List, [], ◌∷◌, length, ℤ, pos, ◌+ℤ◌, ◌*ℤ◌, refl, ◌∙◌, arith, length-set}
 use Rattle.std.specs.List.{AllByRecursion}
-use Rattle.std.proofs.lemmas.List.{get_or-set_same, get_or-set_other}
 use Rattle.std.proofs.lemmas.Int.{ints}
 use Rattle.std.proofs.lemmas.Bool.Decides.{nat_tests}
 use Rattle.std.proofs.lemmas.Bool.{cond-true, le-leb}
@@ -10,7 +9,7 @@ use Rattle.booking.specs.declared.entry.Entry.{Entry}
 use Rattle.booking.specs.declared.entry.EntryKind.{EntryKind}
 use Rattle.booking.specs.declared.entry.EntryKind.TheVariants.{PlainAmount, Unfilled, Filled}
 use Rattle.booking.specs.Weighing.{kind_weight, weight_sum}
-use Rattle.booking.specs.Balances.{balance_place, balance_in, add_amount, add_kind, balances_after}
+use Rattle.booking.specs.Balances.{balance_in, add_amount, add_kind, balances_after}
 use Rattle.books.specs.States.{Books}
 use Rattle.law.specs.Amounts.{amount_if, amount_of_kind, amount_settled, balances_to, BalancesAreSettled}
 use Rattle.law.proofs.Stocks.{lots_weight, lots_weight_sum}
@@ -63,12 +62,7 @@ entries_weigh c (e ∷ es) = let h = kind_weighs c e.kind in let ih = entries_we
 -- Balances after entries.
 
 added_at : (bs : List ℤ) (a c b d : ℕ) (z : ℤ) → length bs ≡ 1024 → PlaceThere a c → PlaceThere b d → balance_in (add_amount bs b d z) a c ≡ balance_in bs a c +ℤ amount_if a c b d z
-added_at bs a c b d z len ac bd =
-    let place : balance_place a c ≡ balance_place b d → (b ≡ a) × (d ≡ c) = λ e. (omega arith, omega arith) in
-    let within : balance_place a c < length bs = omega arith in
-    let same = get_or-set_same bs (balance_place b d) (balance_in bs b d +ℤ z) (pos 0) (omega arith) in
-    let other = get_or-set_other bs (balance_place b d) (balance_place a c) (balance_in bs b d +ℤ z) (pos 0) in
-    grind (arith, ints, nat_tests)
+added_at bs a c b d z len ac bd = search (rules, tests)
 
 kind_length : (bs : List ℤ) (kind : EntryKind) → length (add_kind bs kind) ≡ length bs
 kind_length bs (PlainAmount account amount commodity) = simp length-set

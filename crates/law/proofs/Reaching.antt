@@ -24,9 +24,6 @@ use Rattle.law.proofs.Serials.{Sound, AllSome, kind_sound}
 use Rattle.law.proofs.Tests.{refusal_number, fault_number}
 use Rattle.std.proofs.lemmas.Option.{none-some}
 
-pub some_differ : (m n : ℕ) → (m ≡ n → ⊥) → ◌≡◌ {A = Option ℕ} (Some m) (Some n) → ⊥
-some_differ m n ne e = ne (cc)
-
 -- the entries of draws are those draws
 draws_back : (line : ℕ) (ds : List Draw) → draws_among (draw_entries line ds) ≡ ds
 draws_back line [] = refl

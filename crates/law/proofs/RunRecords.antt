@@ -1,5 +1,6 @@
 -- What the record holds after a run.
-use Rattle.std.proofs.Common.{◌≡◌, ℕ, ◌+◌, ◌≤◌, Bool, true, false, cond, not, ◌&&◌, ◌||◌, eqb, leb, List, [], ◌∷◌, ◌++◌, map, length, take, drop, is_some, Some, None, Option, sym, refl, ap, ◌∙◌, subst, arith}
+use Rattle.std.proofs.Common.{rules, tests, ◌≡◌, ℕ, ◌+◌, ◌≤◌, Bool, true, false, cond, not, ◌&&◌, ◌||◌, eqb, leb, List, [], ◌∷◌, ◌++◌, map, length, take, drop, is_some, Some, None, Option, sym, refl, ap, ◌∙◌, subst, arith}
+use Rattle.std.proofs.lemmas.Bool.Decides.{nat_tests}
 use Rattle.std.specs.List.{AllByRecursion}
 use Rattle.std.proofs.lemmas.List.{length-append, length-map, length-take-le}
 use Rattle.std.proofs.lemmas.Bool.{not-false, leb-true, both_ways}
@@ -7,8 +8,6 @@ use Rattle.refusal.specs.declared.Fault.{Fault}
 use Rattle.refusal.specs.declared.Refusal.TheVariants.{NoSuchDraft, RecordTooShort}
 use Rattle.lots.specs.declared.rows.Key.{Key}
 use Rattle.lots.specs.Orders.{Order, Keeps}
-use Rattle.matching.proofs.Sums.{by_bool}
-use Rattle.stock.specs.Tables.{Table}
 use Rattle.record.specs.declared.rows.Row.{Row}
 use Rattle.record.specs.Layout.{header_length, first_free, header_bytes, rows_bytes}
 use Rattle.refusal.specs.Faults.{fault_at}
@@ -25,7 +24,7 @@ use Rattle.books.specs.Steps.{answered, step, outcomes}
 use Rattle.books.specs.Recording.{header_of, transaction_of, draft_rows, record_after_settling, record_change, record_answered, record_after_call, record_after_calls}
 use Rattle.books.proofs.Nested.{draft_first}
 use Rattle.law.specs.Histories.{Settlement, History, accepted, with_settlement, after_accepted, after_call, history_after, all_entries, all_rows}
-use Rattle.law.specs.Records.{writes, any_wrote, header_of_history, recorded, LentWithin, lend_within, RecordStands}
+use Rattle.law.specs.Records.{writes, any_wrote, recorded, LentWithin, lend_within, RecordStands}
 use Rattle.law.proofs.Sums.{joined_push}
 use Rattle.booking.proofs.Filling.{length_complete}
 use Rattle.std.proofs.Math.Bool.{or_assoc}
@@ -67,7 +66,7 @@ module _ (o : Order) (start : List ℕ) where
     framed : book ≡ old ++ (rows_bytes (all_rows h.settlements) ++ drop (first_free (length (all_entries h.settlements))) start)
 
   framed_by : (wrote : Bool) (h : History) (book : List ℕ) → header_length ≤ length start → Holds wrote h book → Framed h book
-  framed_by true h book room holds = record { old = header_bytes (length (all_entries h.settlements)) (header_of_history o h); size = refl; framed = holds.is }
+  framed_by true h book room holds = search (rules, tests)
   framed_by false h book room holds = record {
     old = take header_length start;
     size = length-take-le header_length start room;
@@ -123,14 +122,7 @@ module _ (o : Order) (start : List ℕ) where
 
   -- names and drafts concern no record
   same_holds : (wrote : Bool) (h k : History) (book : List ℕ) → k.settlements ≡ h.settlements → k.table ≡ h.table → Holds wrote h book → Holds (wrote || false) k book
-  same_holds wrote h k book same table holds =
-      subst (λ (w : Bool). Holds w k book) (by_bool wrote (λ (b : Bool). b ≡ (b || false)) (λ _. refl) (λ _. refl))
-      (record {
-        is = holds.is
-            ∙ ap (λ (xs : List Settlement). cond wrote (header_bytes (length (all_entries xs)) (record { policy = o.code; transactions = length xs; next = h.table.next }) ++ (rows_bytes (all_rows xs) ++ drop (first_free (length (all_entries xs))) start)) start) (sym same)
-            ∙ ap (λ (t : Table). cond wrote (header_bytes (length (all_entries k.settlements)) (record { policy = o.code; transactions = length k.settlements; next = t.next }) ++ (rows_bytes (all_rows k.settlements) ++ drop (first_free (length (all_entries k.settlements))) start)) start) (sym table);
-        early = λ f. same ∙ holds.early f;
-      })
+  same_holds wrote h k book same table holds = grind (arith, nat_tests)
 
   wrote_now : (wrote : Bool) (h : History) (book : List ℕ) → Holds true h book → Holds (wrote || true) h book
   wrote_now true h book holds = holds
@@ -143,7 +135,7 @@ module _ (o : Order) (start : List ℕ) where
       wrote_now wrote (after_accepted o (history s opened xs) (settling slip lent)) (record_change o s (settling slip lent) book) (settling_holds wrote s opened xs slip lent book s.draft parts.0 parts.1 l g holds)
   accepted_holds (writing_header lent) wrote s opened xs book e l g holds =
       wrote_now wrote (history s opened xs) (record_change o s (writing_header lent) book) (headed_holds wrote s opened xs lent book (unrefused (record_too_short lent s.rows) (fault_at 0 RecordTooShort) None e).0 l g holds)
-  accepted_holds c wrote s opened xs book e l g holds = same_holds wrote (history s opened xs) (after_accepted o (history s opened xs) c) book refl refl holds
+  accepted_holds c wrote s opened xs book e l g holds = grind (arith, nat_tests)
 
   step_holds : (c : Call) (wrote : Bool) (s : State) (opened : List Key) (xs : List Settlement) (book : List ℕ) (r : Option Fault) → refusal o s c ≡ r → LentWithin (length start) c → Good s opened xs → Holds wrote (history s opened xs) book
       → Holds (wrote || (accepted (answered o s c r).0 && writes c)) (after_call o (history s opened xs) c (answered o s c r).0) (record_answered o s c book r)

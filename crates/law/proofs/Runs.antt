@@ -1,5 +1,6 @@
 -- The law over runs.
-use Rattle.std.proofs.Common.{◌≡◌, ℕ, ◌+◌, ◌-◌, ◌*◌, ◌≤◌, Bool, true, false, cond, not, ◌&&◌, List, [], ◌∷◌, ◌++◌, length, pos, Some, None, Option, sym, refl, ap, ◌∙◌, subst, arith, length-append, length-set}
+use Rattle.std.proofs.Common.{rules, tests, ◌≡◌, ℕ, ◌+◌, ◌-◌, ◌*◌, ◌≤◌, Bool, true, false, cond, not, ◌&&◌, List, [], ◌∷◌, ◌++◌, length, pos, Some, None, Option, sym, refl, ap, ◌∙◌, subst, arith, length-append}
+use Rattle.std.proofs.lemmas.Bool.Decides.{nat_tests}
 use Rattle.std.specs.Option.{option_map}
 use Rattle.std.specs.List.{AllByRecursion}
 use Rattle.std.proofs.lemmas.List.{get_or-replicate}
@@ -42,7 +43,7 @@ use Rattle.law.proofs.Stocks.{lots_weight, lots_weight_sum, postings_units, post
 use Rattle.law.proofs.Plains.{EntryThere, entries_weigh, balances_length, balances_at, balances_plain}
 use Rattle.law.proofs.Fills.{complete_balances, complete_sum, complete_lots_weight, complete_there, complete_all}
 use Rattle.law.proofs.Serials.{Sound, bears_more, postings_sound, postings_bear}
-use Rattle.law.proofs.Reaching.{some_differ, draft_draws, too_many_reached, too_many_reaching, unsettled_reached, unsettled_reaching}
+use Rattle.law.proofs.Reaching.{draft_draws, too_many_reached, too_many_reaching, unsettled_reached, unsettled_reaching}
 use Rattle.law.proofs.Tests.{fault_number, Unmet, unrefused, none_met, no_line, none_met_at, all_right, both_none, number_differs}
 use Rattle.law.proofs.Limits.{Within, postings_within, well_kept}
 use Rattle.law.proofs.Postings.{Few, PostingThere, DraftThere, entries_there, all_some, joins_there}
@@ -163,14 +164,13 @@ module _ (o : Order) where
       let behind_own = all_right (λ t. t.1 ≡ false) declared _ behind_fields.1 in
       let room = leb-false 64 (length s.names.accounts) behind_own.1.0 in
       record { names = record { commodities = g.names.commodities; accounts = simp length-append (omega arith) }; draft = g.draft; books = g.books; rows = g.rows; transactions = g.transactions }
-  accepted_good (closing source date account) s opened xs e g =
-      record { names = record { commodities = g.names.commodities; accounts = simp length-set g.names.accounts }; draft = g.draft; books = g.books; rows = g.rows; transactions = g.transactions }
+  accepted_good (closing source date account) s opened xs e g = search (rules, tests)
   accepted_good (posting slip source account amount) s opened xs e g =
       record { names = g.names; draft = joined_there s slip source account amount g.names (none_met_at source (posting_tests s slip account amount) e) s.draft g.draft; books = g.books; rows = g.rows; transactions = g.transactions }
   accepted_good (settling slip lent) s opened xs e g = settled_good o s lent s.draft opened xs (unrefused (no_such_draft s slip) (fault_at 0 NoSuchDraft) (first_fault_met (if_given (draft_tests o s lent) s.draft)) e).1 g.draft g
-  accepted_good (asserting source date account amount commodity) s opened xs e g = record { names = g.names; draft = g.draft; books = g.books; rows = g.rows; transactions = g.transactions }
+  accepted_good (asserting source date account amount commodity) s opened xs e g = grind (arith, nat_tests)
   accepted_good (writing_header lent) s opened xs e g = g
-  accepted_good _ s opened xs e g = record { names = g.names; draft = tt; books = g.books; rows = g.rows; transactions = g.transactions }
+  accepted_good _ s opened xs e g = grind (arith, nat_tests)
 
   -- an accepted call leaves what the history says
   settled_history : (s : State) (opened : List Key) (xs : List Settlement) (d : Option Draft)
@@ -233,10 +233,7 @@ module _ (o : Order) (keeps : Keeps o) (s : State) (slip lent : ℕ) (opened : L
         ∙ first_stays (first_fault o d.date s.books.table d.postings) (at_line d.line (first_met (whole_draft_tests s lent d (draft_entries o s d)))) (from d.date d.postings there r)
 
     refused_where : (b : Bool) (d : Option Draft) → DraftThere d → RefusedWhere (OutcomeOf (behind b d)) n (DraftReaches o P s.books.table d)
-    refused_where true d there = record {
-      only_where = λ e. absurd (some_differ 2 n others.0 e);
-      wherever = λ ne _. absurd (ne refl);
-    }
+    refused_where true d there = grind (arith, nat_tests)
     refused_where false d there = record {
       only_where = λ e. whole_from d (sym (settling_number o s slip lent (Whole d)) ∙ e);
       wherever = λ _ r. settling_number o s slip lent (Whole d) ∙ whole_to d there r;

@@ -1,7 +1,8 @@
 -- Lots bear the serials of their openings, stand in their order, have different keys, and none is empty.
-use Rattle.std.proofs.Common.{◌≡◌, ℕ, ◌+◌, ◌-◌, ◌<◌, ◌≤◌, Bool, true, false, cond, ◌||◌, leb, List, [], ◌∷◌, ◌++◌, length, sym, refl, ◌∙◌, subst, arith, length-append}
+use Rattle.std.proofs.lemmas.Grind.{common_steps}
+use Rattle.std.proofs.Common.{◌≡◌, ℕ, ◌+◌, ◌<◌, ◌≤◌, Bool, true, false, cond, ◌||◌, leb, List, [], ◌∷◌, ◌++◌, length, sym, refl, ◌∙◌, subst, arith, length-append}
 use Rattle.std.specs.List.{AllByRecursion}
-use Rattle.std.proofs.lemmas.List.{append-nil, append_assoc, get_or_append_left, get_or_push}
+use Rattle.std.proofs.lemmas.List.{append-nil, append_assoc}
 use Rattle.std.proofs.ByRecursion.{All-weaker, All-push, All-append, All-map}
 use Rattle.std.proofs.lemmas.Bool.{false≢true, true≢false, cond_both, or_parts, leb-false, both_ways}
 use Rattle.lots.specs.declared.rows.Key.{Key}
@@ -91,18 +92,11 @@ other_keys k (r ∷ rs) e =
 
 -- more openings keep the serials that were given
 pub opened_more : (opened more : List Key) (serial : ℕ) (key : Key) → SerialOfOpening opened serial key → SerialOfOpening (opened ++ more) serial key
-opened_more opened more serial key m =
-    let low = m.from_one in
-    let high = m.given in
-    record { from_one = low; given = simp length-append (omega arith); own_key = λ d. get_or_append_left opened more d (serial - 1) (omega arith) ∙ m.own_key d }
+opened_more opened more serial key m = grind (arith, common_steps)
 
 -- the serial that is given next
 next_opening : (opened : List Key) (k : Key) (serial : ℕ) → serial ≡ length opened + 1 → SerialOfOpening (opened ++ (k ∷ [])) serial k
-next_opening opened k serial e = record {
-  from_one = omega arith;
-  given = simp length-append (omega arith);
-  own_key = λ d. get_or_push opened k d (serial - 1) (omega arith);
-}
+next_opening opened k serial e = grind (arith, common_steps)
 
 -- Purchases.
 

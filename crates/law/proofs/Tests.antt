@@ -1,13 +1,12 @@
 -- What a call that is not refused tells: no test of its table is met.
 use Rattle.std.proofs.Common.{◌≡◌, ℕ, ◌+◌, ◌<◌, ◌≤◌, Bool, true, false, cond, not, List, [], ◌∷◌, ◌++◌, length, is_some, Some, None, Option, sym, refl, ◌∙◌, arith}
-use Rattle.std.specs.List.{AllByRecursion}
+use Rattle.std.specs.List.{AllByRecursion, position_from}
 use Rattle.std.proofs.lemmas.Bool.{cond_both, true≢false}
 use Rattle.refusal.specs.declared.Refusal.{Refusal}
 use Rattle.refusal.specs.declared.Fault.{Fault}
 use Rattle.refusal.specs.Table.{number_of}
 use Rattle.booking.specs.Booking.{at_line, or_else}
 use Rattle.booking.specs.Balances.{first_met}
-use Rattle.std.specs.List.{position_from}
 use Rattle.books.specs.Lookups.{number_or_0}
 use Rattle.books.specs.Refusals.{tests_at, first_fault_met}
 use Rattle.books.proofs.Nested.{first_at}
