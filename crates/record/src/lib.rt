@@ -52,8 +52,8 @@ pub fn append_rows(
 {
     let all = written as usize + rows.len();
     room_for(book.len(), all)?;
-    put_rows(book, first_free(written) as usize, rows);
-    put_header(book, all as u32, header);
+    put_rows(book, first_free(written as u16) as usize, rows);
+    put_header(book, all as u16, header);
     Ok(())
 }
 
@@ -64,6 +64,6 @@ pub fn write_header(book: &mut [u8], written: u32, header: Header) -> Result<(),
     ensures headed { WhenOk result (Headed written header book.old book.new) }
 {
     room_for(book.len(), written as usize)?;
-    put_header(book, written, header);
+    put_header(book, written as u16, header);
     Ok(())
 }
