@@ -1,14 +1,15 @@
 -- One draw from the earliest matching lot x, which stands between the lots ys and zs, and then the rest.
-use Rattle.std.proofs.Common.{◌≡◌, ℕ, ◌+◌, ◌-◌, ◌<◌, ◌≤◌, min, Bool, true, false, cond, ◌&&◌, eqb, leb, List, [], ◌∷◌, ◌++◌, refl, ap, ◌∙◌, arith}
+use Rattle.std.proofs.Common.{◌≡◌, ℕ, ◌+◌, ◌-◌, ◌<◌, ◌≤◌, min, Bool, true, false, cond, ◌&&◌, eqb, leb, ◌⊎◌, List, [], ◌∷◌, ◌++◌, length, get_or, refl, ap, ◌∙◌, ⊎_elim, arith}
 use native.Mathlib.Nat.{sub-zero}
 use Rattle.std.specs.List.{AllByRecursion}
-use Rattle.std.proofs.ByRecursion.{All-weaker}
-use Rattle.std.proofs.lemmas.Bool.{and_from, and_right, cond-true, cond-false, le-leb, lt-leb, eq-eqb, ne_eqb, eqb-false}
+use Rattle.std.proofs.ByRecursion.{All-weaker, All-from_get_or}
+use Rattle.std.proofs.lemmas.Bool.{and_from, and_right, cond_both, cond-true, cond-false, le-leb, lt-leb, eq-eqb, ne_eqb, eqb-false}
 use Rattle.lots.specs.declared.rows.LotRow.{LotRow}
-use Rattle.lots.specs.Rows.{with_fewer}
+use Rattle.lots.specs.Rows.{no_lot, with_fewer}
 use Rattle.matching.specs.declared.wanted.Draw.{Draw}
 use Rattle.matching.specs.Sums.{sum_of}
-use Rattle.matching.specs.Matching.{units_if, units_matching}
+use Rattle.matching.specs.Matching.{units_if}
+use Rattle.matching.specs.Places.{NoneMatch}
 use Rattle.matching.specs.Drawing.{units_before, gives, lots_left, insert_draw, draws_in_order, draws, left_over}
 use Rattle.matching.proofs.Sums.{by_bool}
 use Rattle.matching.proofs.Drawing.{sum_of_zero_all, all_draws, left_same}
@@ -159,20 +160,18 @@ module _ (M : LotRow → Bool) (lt : LotRow → LotRow → Bool) (ys : List LotR
       let g : f x ≡ n = let e = gives_x n in omega arith in
       left_part f ys x zs (omega arith) (gives_nothing n (omega arith)) some ∙ ap (λ (m : ℕ). ys ++ with_fewer x m ∷ zs) g
 
-  -- what the others hold
-  pub matching_others : units_matching M (ys ++ x ∷ zs) ≡ x.units + units_matching M (ys ++ zs)
-  matching_others =
-      let s = sum_of_split (units_if M) ys x zs in
-      let own : units_if M x ≡ x.units = cond-true (M x) x.units 0 leads.fits in
-      omega arith
+-- nothing is asked, or nothing matches
+module _ (M : LotRow → Bool) (lt : LotRow → LotRow → Bool) (n : ℕ) (xs : List LotRow) (none : (n ≡ 0) ⊎ NoneMatch M xs (length xs)) where
+  gives_none : AllByRecursion (λ r. gives M lt n xs r ≡ 0) xs
+  gives_none = All-from_get_or (λ r. gives M lt n xs r ≡ 0) xs no_lot (λ i h.
+      let r = get_or xs i no_lot in
+      ⊎_elim
+      (λ (z : n ≡ 0). cond_both (M r) (min r.units (n - units_before M lt xs r)) 0 (λ m. m ≡ 0) (λ _. omega arith) (λ _. refl))
+      (λ (f : NoneMatch M xs (length xs)). cond-false (M r) (min r.units (n - units_before M lt xs r)) 0 (f i h))
+      none)
 
--- nothing is asked
-gives_zero : (M : LotRow → Bool) (lt : LotRow → LotRow → Bool) (xs ys : List LotRow) → AllByRecursion (λ r. gives M lt 0 xs r ≡ 0) ys
-gives_zero M lt xs [] = tt
-gives_zero M lt xs (r ∷ rs) = (by_bool (M r) (λ (b : Bool). cond b (min r.units (0 - units_before M lt xs r)) 0 ≡ 0) (λ _. omega arith) (λ _. refl), gives_zero M lt xs rs)
+  pub draws_nothing : draws M lt n xs ≡ []
+  draws_nothing = draws_none lt (gives M lt n xs) xs gives_none
 
-pub draws_zero : (M : LotRow → Bool) (lt : LotRow → LotRow → Bool) (xs : List LotRow) → draws M lt 0 xs ≡ []
-draws_zero M lt xs = draws_none lt (gives M lt 0 xs) xs (gives_zero M lt xs xs)
-
-pub left_zero : (M : LotRow → Bool) (lt : LotRow → LotRow → Bool) (xs : List LotRow) → AllByRecursion (λ r. 1 ≤ r.units) xs → left_over M lt 0 xs ≡ xs
-left_zero M lt xs some = left_none (gives M lt 0 xs) xs (gives_zero M lt xs xs) some
+  pub left_all : AllByRecursion (λ r. 1 ≤ r.units) xs → left_over M lt n xs ≡ xs
+  left_all = left_none (gives M lt n xs) xs gives_none

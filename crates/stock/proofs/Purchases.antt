@@ -76,7 +76,7 @@ module _ (k : Key) (n : ℕ) (t : Table) where
       → purchased k n t ≡ by_words n held there after serial t
   words held there after serial e f g h = λ i. by_words n (e i) (f i) (g i) (h i) t
 
-  pub grown_is_purchased : WellKept t → (i : ℕ) → OpenAt k t.lots (Some i) → grown_at i n t ≡ purchased k n t
+  grown_is_purchased : WellKept t → (i : ℕ) → OpenAt k t.lots (Some i) → grown_at i n t ≡ purchased k n t
   grown_is_purchased w i at =
       let lots = t.lots in
       let ys = take i lots in
@@ -101,7 +101,7 @@ module _ (k : Key) (n : ℕ) (t : Table) where
     abbrev after : List LotRow
     after = t.lots ++ (record { key = k; units = n; serial = t.next } ∷ [])
 
-    pub opened_is_purchased : t.next < last_serial → opened k n t ≡ purchased k n t
+    opened_is_purchased : t.next < last_serial → opened k n t ≡ purchased k n t
     opened_is_purchased low =
         let E = words 0 false after t.next (units_none k t.lots others) (not_open k t.lots others) (add_new k n t.next t.lots others) (serial_new k t.next t.lots others) in
         ap (λ (b : Bool). cond (b || leb 256 (length t.lots)) (Err TooManyLots, t) (Ok t.next, record { lots = after; next = t.next + 1 })) (lt-leb last_serial t.next low)
@@ -109,12 +109,12 @@ module _ (k : Key) (n : ℕ) (t : Table) where
         ∙ ap (λ (b : Bool). answered (cond b (Some LotTooLarge) (cond (leb 256 (length t.lots)) (Some TooManyLots) None)) t.next (record { lots = after; next = t.next + 1 }) t) (sym (le-ltb most (0 + n) (omega arith)))
         ∙ sym E
 
-    pub opened_is_late : last_serial ≤ t.next → opened k n t ≡ purchased_late k n t
+    opened_is_late : last_serial ≤ t.next → opened k n t ≡ purchased_late k n t
     opened_is_late high =
         cond-true (leb last_serial t.next || leb 256 (length t.lots)) (Err TooManyLots, t) (Ok t.next, record { lots = after; next = t.next + 1 }) (or_left (leb last_serial t.next) (leb 256 (length t.lots)) (le-leb last_serial t.next high))
         ∙ sym (cond-false (is_open k t.lots) (purchased k n t) (Err TooManyLots, t) (not_open k t.lots others))
 
-  pub grown_is_late : WellKept t → (i : ℕ) → OpenAt k t.lots (Some i) → grown_at i n t ≡ purchased_late k n t
+  grown_is_late : WellKept t → (i : ℕ) → OpenAt k t.lots (Some i) → grown_at i n t ≡ purchased_late k n t
   grown_is_late w i at =
       let split = split_at t.lots i no_lot at.0 in
       let there = ap (is_open k) split ∙ open_there k (get_or t.lots i no_lot) at.1 (drop (suc i) t.lots) (take i t.lots) in
@@ -140,18 +140,26 @@ module _ (k : Key) (n : ℕ) (t : Table) where
   answered_brings None = λ j. add_brings k j n t.next t.lots
   answered_brings (Some e) = tt
 
-  pub brings : (p : Result ℕ Refusal × Table) → p ≡ purchased k n t → BringsUnits k n t p
+  brings : (p : Result ℕ Refusal × Table) → p ≡ purchased k n t → BringsUnits k n t p
   brings p e = subst (λ (q : Result ℕ Refusal × Table). BringsUnits k n t q) (sym e) (answered_brings (purchase_refusal k n t))
 
-  -- a new lot that was refused for want of a serial too
-  module _ (small : n ≤ most) (none : OpenAt k t.lots None) where
-    pub opened_brings : (p : Result ℕ Refusal × Table) → p ≡ opened k n t → BringsUnits k n t p
-    opened_brings p e =
-        ⊎_elim
-        (λ (low : t.next < last_serial). brings p (e ∙ opened_is_purchased k n t small none low))
-        (λ (high : last_serial ≤ t.next). subst (λ (q : Result ℕ Refusal × Table). BringsUnits k n t q) (sym (e ∙ opened_late high)) tt)
-        (cases_lt t.next last_serial)
-      where
-        opened_late : last_serial ≤ t.next → opened k n t ≡ (Err TooManyLots, t)
-        opened_late high =
-            cond-true (leb last_serial t.next || leb 256 (length t.lots)) (Err TooManyLots, t) (Ok t.next, record { lots = t.lots ++ (record { key = k; units = n; serial = t.next } ∷ []); next = t.next + 1 }) (or_left (leb last_serial t.next) (leb 256 (length t.lots)) (le-leb last_serial t.next high))
+-- what a purchase promises of its answer and the table after it
+abbrev pub Promised : Key → ℕ → Table → Result ℕ Refusal × Table → Type 0
+Promised k n t p = (t.next < last_serial → p ≡ purchased k n t) × (last_serial ≤ t.next → p ≡ purchased_late k n t) × BringsUnits k n t p
+
+module _ (k : Key) (n : ℕ) (t : Table) (p : Result ℕ Refusal × Table) where
+  pub grown_promised : WellKept t → (i : ℕ) → OpenAt k t.lots (Some i) → p ≡ grown_at i n t → Promised k n t p
+  grown_promised w i at e =
+      let booked = e ∙ grown_is_purchased k n t w i at in
+      (λ _. booked, λ _. e ∙ grown_is_late k n t w i at, brings k n t p booked)
+
+  pub opened_promised : n ≤ most → OpenAt k t.lots None → p ≡ opened k n t → Promised k n t p
+  opened_promised small none e = (
+    λ low. e ∙ opened_is_purchased k n t small none low,
+    λ high. e ∙ opened_is_late k n t small none high,
+    -- a new lot may be refused for want of a serial too
+    ⊎_elim
+        (λ (low : t.next < last_serial). brings k n t p (e ∙ opened_is_purchased k n t small none low))
+        (λ (high : last_serial ≤ t.next). subst (λ (q : Result ℕ Refusal × Table). BringsUnits k n t q) (sym (e ∙ cond-true (leb last_serial t.next || leb 256 (length t.lots)) _ _ (or_left (leb last_serial t.next) (leb 256 (length t.lots)) (le-leb last_serial t.next high)))) tt)
+        (cases_lt t.next last_serial),
+  )

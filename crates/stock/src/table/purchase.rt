@@ -1,6 +1,6 @@
 // Purchases.
-ghost use Rattle.std.specs.Prelude.{◌≡◌, ◌<◌, ◌≤◌, length, None};
-ghost use Rattle.stock.specs.Places.{OpenAt, grown_at, opened};
+ghost use Rattle.std.specs.Prelude.{◌≡◌, ◌<◌, ◌≤◌, None};
+ghost use Rattle.stock.specs.Places.{OpenAt, opened};
 ghost use Rattle.stock.specs.Tables.{last_serial, purchased, purchased_late};
 ghost use Rattle.stock.specs.Promises.{BringsUnits, KeptIfRefused};
 
@@ -26,24 +26,16 @@ impl LotTable {
         ensures refusal_changes_nothing { KeptIfRefused self.old (result, self.new) }
     {
         let row = bought.row();
-        match place_of(self.lots(), row.key) {
-            Some(place) => self.grow(place, row.units),
-            None => self.start(bought),
-        }
-    }
-
-    // More units for the lot at a place.
-    fn grow(&mut self, place: usize, units: u32) -> Result<u32, Refusal>
-        requires { place < length self.old.lots }
-        ensures { (result, self.new) ≡ grown_at place units self.old }
-    {
-        let row = self
-            .lot_at(place)
-            .grow(units)
+        let Some(place) = place_of(self.lots(), row.key) else {
+            return self.start(bought);
+        };
+        let grown = Lot::new(self.lots()[place])
+            .unwrap()
+            .grow(row.units)
             .ok_or(Refusal::LotTooLarge)?
             .row();
-        self.rows.put(place, row);
-        Ok(row.serial)
+        self.rows.put(place, grown);
+        Ok(grown.serial)
     }
 
     // A new lot. The highest number is no lot's serial, since the next serial has to fit too.

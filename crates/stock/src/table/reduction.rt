@@ -1,15 +1,16 @@
 // Reductions.
-ghost use Rattle.std.specs.Prelude.{◌≡◌, ◌<◌, ◌≤◌, length};
-ghost use Rattle.matching.specs.Matching.{matches, units_matching};
+ghost use Rattle.std.specs.Prelude.{◌≡◌};
+ghost use Rattle.matching.specs.Matching.{matches};
 ghost use Rattle.matching.specs.Drawing.{settled, draws_of};
 ghost use Rattle.matching.specs.Drawn.{TooFew, Unsettled};
 ghost use Rattle.stock.specs.Kept.{WellKept};
 ghost use Rattle.stock.specs.Tables.{reduced, table_after_reduction};
-ghost use Rattle.stock.specs.Places.{taken_at};
+ghost use Rattle.stock.specs.Places.{TakesFirst};
 ghost use Rattle.stock.specs.Promises.{DrawsEarliestFirst, RefusedExactly, AcceptedWithOneMatch, KeptIfRefused};
 
 use super::{LotTable, MOST_LOTS};
 use bounded::list::Bounded;
+use lots::lot::Lot;
 use lots::policy::{Policy, Question};
 use matching::search::{lots_matching, units_matching};
 use matching::wanted::{Draw, Reduction};
@@ -52,22 +53,15 @@ impl LotTable {
         }
     }
 
-    // The order is asked with all the units, also where some are drawn already: a lot is touched at most once,
-    // so those that are still there have the units that they had before.
+    // What the wanted lots hold goes out, as far as it is asked for.
     fn draw<P: Policy>(&mut self, asked: &Reduction<P>) -> Draws
-        requires enough { asked.now.units ≤ units_matching (matches asked.now.wanted) self.old.lots }
-        requires kept { WellKept self.old }
         ensures drawn { result ≡ draws_of (P.Policy.order asked.now.policy.now) asked.now.wanted asked.now.units self.old.lots }
         ensures after { self.new ≡ table_after_reduction (P.Policy.order asked.now.policy.now) asked.now.wanted asked.now.units self.old }
     {
         let mut draws = Bounded::new(Draw::default());
         let mut left = asked.units;
         // no chain: its end is what is drawn, and not a list's
-        while left > 0 {
-            let Some(place) = asked.earliest(self.lots()) else {
-                unreachable!()
-            };
-            let draw = self.take_from(place, left);
+        while let Some(draw) = self.take(asked, left) {
             left -= draw.units;
             let Ok(()) = draws.push(draw) else {
                 unreachable!()
@@ -76,28 +70,34 @@ impl LotTable {
         draws
     }
 
-    // The lot at a place gives what is asked, or all that it has; emptied, it is gone.
-    fn take_from(&mut self, place: usize, asked: u32) -> Draw
-        requires { place < length self.old.lots }
-        ensures taken { (result, self.new) ≡ taken_at place asked self.old }
-        ensures kept { WellKept self.new }
+    // The first of the wanted lots gives what is left to ask, or all that it has; emptied, it is gone.
+    // The order is asked with all the units, also where some are drawn already: a lot is touched at most once,
+    // so those that are still there have the units that they had before.
+    fn take<P: Policy>(&mut self, asked: &Reduction<P>, left: u32) -> Option<Draw>
+        ensures taken { TakesFirst (matches asked.now.wanted) ((P.Policy.order asked.now.policy.now).before asked.now.units) left self.old (result, self.new) }
+        ensures kept { WellKept self.old }
     {
-        let lot = self.lot_at(place);
+        let rows = self.lots();
+        if left == 0 {
+            return None;
+        }
+        let place = asked.earliest(rows)?;
+        let lot = Lot::new(rows[place]).unwrap();
         let row = lot.row();
-        match lot.shrink(asked) {
+        match lot.shrink(left) {
             Some(rest) => {
                 self.rows.put(place, rest.row());
-                Draw {
+                Some(Draw {
                     lot: row,
-                    units: asked,
-                }
+                    units: left,
+                })
             }
             None => {
                 self.rows.remove(place);
-                Draw {
+                Some(Draw {
                     lot: row,
                     units: row.units,
-                }
+                })
             }
         }
     }
