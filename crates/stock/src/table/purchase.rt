@@ -29,6 +29,7 @@ impl LotTable {
         let Some(place) = place_of(self.lots(), row.key) else {
             return self.start(bought);
         };
+        // what stands in the table is within a lot's ranges
         let grown = Lot::new(self.lots()[place])
             .unwrap()
             .grow(row.units)

@@ -84,21 +84,16 @@ impl LotTable {
         let place = asked.earliest(rows)?;
         let lot = Lot::new(rows[place]).unwrap();
         let row = lot.row();
-        match lot.shrink(left) {
+        let units = match lot.shrink(left) {
             Some(rest) => {
                 self.rows.put(place, rest.row());
-                Some(Draw {
-                    lot: row,
-                    units: left,
-                })
+                left
             }
             None => {
                 self.rows.remove(place);
-                Some(Draw {
-                    lot: row,
-                    units: row.units,
-                })
+                row.units
             }
-        }
+        };
+        Some(Draw { lot: row, units })
     }
 }
