@@ -1,11 +1,13 @@
 -- One draw after another gives what the closed form says.
-use Rattle.std.proofs.Common.{◌≡◌, ℕ, suc, ◌+◌, ◌-◌, ◌<◌, ◌≤◌, Bool, leb, ◌⊎◌, List, [], ◌∷◌, ◌++◌, length, get_or, take, drop, set, sym, ap, ◌∙◌, subst, inl, ⊎_elim, append_assoc, arith}
-use Rattle.std.specs.List.{remove, AllByRecursion}
-use Rattle.std.proofs.lemmas.List.{append-nil, length_push}
+use Rattle.std.proofs.Common.{◌≡◌, ℕ, suc, ◌+◌, ◌-◌, ◌<◌, ◌≤◌, Bool, true, ◌&&◌, leb, ◌⊎◌, List, [], ◌∷◌, ◌++◌, length, get_or, take, drop, set, sym, refl, ap, ◌∙◌, subst, inl, ⊎_elim, append_assoc, arith}
+use Rattle.std.specs.List.{remove, list_all, AllByRecursion}
+use Rattle.std.proofs.lemmas.List.{append-nil, length_push, length-set}
+use Rattle.std.proofs.lemmas.List.Folds.{list_all-append}
 use Rattle.std.proofs.ByRecursion.{All-get_or, All-set}
-use Rattle.std.proofs.lemmas.Bool.{cases_lt, cond_both, leb-true, leb-false}
+use Rattle.std.proofs.lemmas.Bool.{and_from, cases_lt, cond_both, leb-true, leb-false}
+use Rattle.std.proofs.lemmas.Bool.Decides.{nat_tests}
 use Rattle.lots.specs.declared.rows.LotRow.{LotRow}
-use Rattle.lots.specs.Rows.{no_lot, with_fewer}
+use Rattle.lots.specs.Rows.{in_range, no_lot, with_fewer}
 use Rattle.lots.specs.Orders.{Order, Keeps}
 use Rattle.matching.specs.declared.wanted.Draw.{Draw}
 use Rattle.matching.specs.Places.{NoneMatch, EarliestAt}
@@ -14,6 +16,7 @@ use Rattle.matching.proofs.Steps.{Leads, draws_whole, left_whole, draws_part, le
 use Rattle.matching.proofs.Splits.{split_at, set_at, length_split, all_without, leads_at}
 use Rattle.stock.specs.Tables.{Table}
 use Rattle.stock.specs.Places.{taken_at}
+use Rattle.stock.specs.Promises.{draw_in_range}
 use Rattle.stock.specs.Kept.{WellKept}
 use Rattle.stock.proofs.Keeping.{some_units}
 
@@ -22,7 +25,11 @@ pub record UnderWay (M : LotRow → Bool) (lt : LotRow → LotRow → Bool) (u :
   pub drawn : ds ++ draws M lt left now.lots ≡ draws M lt u old.lots
   pub after : left_over M lt left now.lots ≡ left_over M lt u old.lots
   pub next : now.next ≡ old.next
-  pub room : 0 < left → 0 < length ds → length ds + length now.lots ≤ 256
+  pub in_range : list_all draw_in_range ds ≡ true
+  -- each lot that was drawn from is gone but the last, and that one is when more is asked
+  pub counted : 0 < left → length ds + length now.lots ≡ length old.lots
+  pub room : length ds + length now.lots ≤ length old.lots + 1
+  pub few : 0 < length ds → length old.lots ≤ 256
 
 module _ (o : Order) (keeps : Keeps o) (M : LotRow → Bool) (u : ℕ) (old now : Table) (ds : List Draw) (left : ℕ)
     (kept : WellKept now) (w : UnderWay M (o.before u) u old now ds left) where
@@ -39,6 +46,19 @@ module _ (o : Order) (keeps : Keeps o) (M : LotRow → Bool) (u : ℕ) (old now 
     units_x : 1 ≤ x.units
     units_x = All-get_or (λ r. 1 ≤ r.units) now.lots i no_lot e.within some
 
+    drawn_in_range : (n : ℕ) → n ≤ x.units → list_all draw_in_range (ds ++ record { lot = x; units = n } ∷ []) ≡ true
+    drawn_in_range n h =
+        let d : Draw = record { lot = x; units = n } in
+        let r = All-get_or (λ r. in_range r ≡ true) now.lots i no_lot e.within kept.ranges in
+        let fits : draw_in_range d ≡ true = grind (arith, nat_tests) in
+        list_all-append draw_in_range ds (d ∷ []) ∙ and_from (list_all draw_in_range ds) (draw_in_range d && true) w.in_range (and_from (draw_in_range d) true fits refl)
+
+    few_now : length old.lots ≤ 256
+    few_now =
+        let top = kept.at_most_256 in
+        let all = w.counted l in
+        ⊎_elim (λ (some : 0 < length ds). w.few some) (λ (none : length ds ≤ 0). omega arith) (cases_lt 0 (length ds))
+
     split : now.lots ≡ take i now.lots ++ x ∷ drop (suc i) now.lots
     split = split_at now.lots i no_lot e.within
 
@@ -52,13 +72,15 @@ module _ (o : Order) (keeps : Keeps o) (M : LotRow → Bool) (u : ℕ) (old now 
         let rest = remove now.lots i in
         let step : draws M lt left now.lots ≡ d ∷ draws M lt (left - x.units) rest = ap (draws M lt left) split ∙ draws_whole M lt (take i now.lots) x (drop (suc i) now.lots) leads left units_x h in
         let n = ap length split ∙ length_split (take i now.lots) x (drop (suc i) now.lots) in
-        let few = kept.at_most_256 in
-        let room : length ds + length now.lots ≤ 256 = ⊎_elim (λ (some : 0 < length ds). w.room l some) (λ (none : length ds ≤ 0). omega arith) (cases_lt 0 (length ds)) in
+        let all = w.counted l in
         record {
           drawn = append_assoc ds (d ∷ []) (draws M lt (left - x.units) rest) ∙ ap (λ (es : List Draw). ds ++ es) (sym step) ∙ w.drawn;
           after = sym (ap (left_over M lt left) split ∙ left_whole M lt (take i now.lots) x (drop (suc i) now.lots) leads left h) ∙ w.after;
           next = w.next;
-          room = λ _ _. omega (arith, length_push ds d);
+          in_range = drawn_in_range x.units (omega arith);
+          counted = λ _. omega (arith, length_push ds d);
+          room = omega (arith, length_push ds d);
+          few = λ _. few_now;
         }
 
     -- a part of it, which ends the drawing
@@ -67,6 +89,7 @@ module _ (o : Order) (keeps : Keeps o) (M : LotRow → Bool) (u : ℕ) (old now 
         let d : Draw = record { lot = x; units = left } in
         let rest = set now.lots i (with_fewer x left) in
         let none : left - left ≡ 0 = omega arith in
+        let all = w.counted l in
         let step : draws M lt left now.lots ≡ d ∷ [] = ap (draws M lt left) split ∙ draws_part M lt (take i now.lots) x (drop (suc i) now.lots) leads left l h in
         let others = all_without (λ r. 1 ≤ r.units) (take i now.lots) x (drop (suc i) now.lots) (subst (AllByRecursion (λ r. 1 ≤ r.units)) split some) in
         let over : left_over M lt left now.lots ≡ rest = ap (left_over M lt left) split ∙ left_in_part M lt (take i now.lots) x (drop (suc i) now.lots) leads left h others ∙ sym (set_at now.lots i (with_fewer x left) e.within) in
@@ -74,7 +97,10 @@ module _ (o : Order) (keeps : Keeps o) (M : LotRow → Bool) (u : ℕ) (old now 
           drawn = ap (λ (es : List Draw). (ds ++ d ∷ []) ++ es) (draws_nothing M lt (left - left) rest (inl none)) ∙ append-nil (ds ++ d ∷ []) ∙ ap (λ (es : List Draw). ds ++ es) (sym step) ∙ w.drawn;
           after = left_all M lt (left - left) rest (inl none) (All-set (λ r. 1 ≤ r.units) now.lots i (with_fewer x left) (omega arith) some) ∙ sym over ∙ w.after;
           next = w.next;
-          room = λ z _. absurd (omega arith);
+          in_range = drawn_in_range left (omega arith);
+          counted = λ some. absurd (omega arith);
+          room = omega (arith, length_push ds d, length-set now.lots i (with_fewer x left));
+          few = λ _. few_now;
         }
 
     -- either

@@ -1,12 +1,13 @@
 // Reductions.
-ghost use Rattle.std.specs.Prelude.{◌≡◌};
+ghost use Rattle.std.specs.Prelude.{◌≡◌, ◌+◌, ◌≤◌, true, length, IfOk};
+ghost use Rattle.std.specs.List.{list_all};
 ghost use Rattle.matching.specs.Matching.{matches};
 ghost use Rattle.matching.specs.Drawing.{settled, draws_of};
 ghost use Rattle.matching.specs.Drawn.{TooFew, Unsettled};
 ghost use Rattle.stock.specs.Kept.{WellKept};
 ghost use Rattle.stock.specs.Tables.{reduced, table_after_reduction};
 ghost use Rattle.stock.specs.Places.{TakesFirst};
-ghost use Rattle.stock.specs.Promises.{DrawsEarliestFirst, RefusedExactly, AcceptedWithOneMatch, KeptIfRefused};
+ghost use Rattle.stock.specs.Promises.{DrawsEarliestFirst, draw_in_range, RefusedExactly, AcceptedWithOneMatch, KeptIfRefused};
 
 use super::{LotTable, MOST_LOTS};
 use bounded::list::Bounded;
@@ -21,9 +22,12 @@ pub type Draws = Bounded<Draw, MOST_LOTS>;
 
 impl LotTable {
     // Draws units from the matching lots in the policy's order, each to its last unit before the next; or refuses and changes nothing.
+    // Each lot that it draws from is emptied but the last, so that draws and open lots together grow by at most one.
     pub fn reduce<P: Policy>(&mut self, asked: &Reduction<P>) -> Result<Draws, Refusal>
         ensures defined { (result, self.new) ≡ reduced (P.Policy.order asked.now.policy.now) asked.now.wanted asked.now.units self.old }
         ensures draws_earliest_first { DrawsEarliestFirst (P.Policy.order asked.now.policy.now) asked.now.wanted asked.now.units self.old (result, self.new) }
+        ensures draws_in_range { IfOk result (λ ds. list_all draw_in_range ds ≡ true) }
+        ensures grows_by_one { IfOk result (λ ds. length ds + length self.new.lots ≤ length self.old.lots + 1) }
         ensures too_few_is_22 { RefusedExactly 22 (TooFew (matches asked.now.wanted) asked.now.units self.old.lots) result }
         ensures unsettled_is_23 { RefusedExactly 23 (Unsettled (P.Policy.order asked.now.policy.now) (matches asked.now.wanted) asked.now.units self.old.lots) result }
         ensures one_match_is_settled { AcceptedWithOneMatch asked.now.wanted asked.now.units self.old result }
@@ -57,6 +61,8 @@ impl LotTable {
     fn draw<P: Policy>(&mut self, asked: &Reduction<P>) -> Draws
         ensures drawn { result ≡ draws_of (P.Policy.order asked.now.policy.now) asked.now.wanted asked.now.units self.old.lots }
         ensures after { self.new ≡ table_after_reduction (P.Policy.order asked.now.policy.now) asked.now.wanted asked.now.units self.old }
+        ensures in_range { list_all draw_in_range result ≡ true }
+        ensures grows_by_one { length result + length self.new.lots ≤ length self.old.lots + 1 }
     {
         let mut draws = Bounded::new(Draw::default());
         let mut left = asked.units;

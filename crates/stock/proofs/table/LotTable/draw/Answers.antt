@@ -18,4 +18,4 @@ returns g c =
     let l = c.loop-draw in
     let t = c.in_default.ensures.taken in
     let end = finished (g.P.Policy.order asked.policy.now) (g.met.P.Policy.keeps asked.policy.now) (matches asked.wanted) asked.units c.args.self.now l.self l.draws l.left c.take.ensures.kept l.invariant t.0 in
-    record { drawn = end.0; after = t.1 ∙ end.1 }
+    record { drawn = end.0; after = t.1 ∙ end.1; in_range = l.invariant.in_range; grows_by_one = rw t.1 l.invariant.room }
