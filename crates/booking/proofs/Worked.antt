@@ -43,10 +43,6 @@ unfolding unbalanced_in
 against_a_blank = refl
 
 -- at 3.32 it weighs 8.3000, and the blank becomes -8.30
-at_another_cost : met (bought 332 ∷ blank ∷ []) ≡ None
-unfolding unbalanced_in
-at_another_cost = refl
-
 filled : complete (entries (bought 332 ∷ blank ∷ [])) ≡ record { line = 7; kind = Bought (record { account = 1; commodity = 2; cost = record { number = 332; commodity = 1 }; date = 20240103 }) 250 1 } ∷ record { line = 8; kind = Filled 2 (neg_ℤ (pos 830)) 1 } ∷ []
 unfolding unbalanced_in
 filled = refl

@@ -1,5 +1,5 @@
 // Purchases.
-ghost use Rattle.std.specs.Prelude.{◌≡◌, ◌<◌, ◌≤◌, None};
+ghost use Rattle.std.specs.Prelude.{◌≡◌, ◌+◌, ◌<◌, ◌≤◌, length, None};
 ghost use Rattle.stock.specs.Places.{OpenAt, opened};
 ghost use Rattle.stock.specs.Tables.{last_serial, purchased, purchased_late};
 ghost use Rattle.stock.specs.Promises.{BringsUnits, KeptIfRefused};
@@ -23,6 +23,8 @@ impl LotTable {
         ensures booked { self.old.next < last_serial → (result, self.new) ≡ purchased bought.now.key bought.now.units self.old }
         ensures out_of_serials { last_serial ≤ self.old.next → (result, self.new) ≡ purchased_late bought.now.key bought.now.units self.old }
         ensures brings_units { BringsUnits bought.now.key bought.now.units self.old (result, self.new) }
+        ensures one_lot_more { length self.new.lots ≤ length self.old.lots + 1 }
+        ensures one_serial_more { self.new.next ≤ self.old.next + 1 }
         ensures refusal_changes_nothing { KeptIfRefused self.old (result, self.new) }
     {
         let row = bought.row();
@@ -42,7 +44,9 @@ impl LotTable {
     // A new lot. The highest number is no lot's serial, since the next serial has to fit too.
     fn start(&mut self, bought: &Lot) -> Result<u32, Refusal>
         requires { OpenAt bought.now.key self.old.lots None }
-        ensures { (result, self.new) ≡ opened bought.now.key bought.now.units self.old }
+        ensures opened { (result, self.new) ≡ opened bought.now.key bought.now.units self.old }
+        ensures one_lot_more { length self.new.lots ≤ length self.old.lots + 1 }
+        ensures one_serial_more { self.new.next ≤ self.old.next + 1 }
     {
         let serial = self.next;
         let next = serial.checked_add(1).ok_or(Refusal::TooManyLots)?;

@@ -11,8 +11,8 @@ returns-in_default c =
     let b = c.args.bought.now in
     let none : OpenAt b.key c.args.self.now.lots None = search rules in
     let small : b.units ≤ most = search rules in
-    let p = opened_promised b.key b.units c.args.self.now (c.start.result, c.start.new.self) small none c.start.ensures in
-    record { booked = p.0; out_of_serials = p.1; brings_units = p.2; refusal_changes_nothing = search rules }
+    let p = opened_promised b.key b.units c.args.self.now (c.start.result, c.start.new.self) small none c.start.ensures.opened in
+    record { booked = p.0; out_of_serials = p.1; brings_units = p.2; one_lot_more = search rules; one_serial_more = search rules; refusal_changes_nothing = search rules }
 
 pub returns-in_err-ok_or : goal.returns-in_err-ok_or
 returns-in_err-ok_or c =
@@ -21,7 +21,7 @@ returns-in_err-ok_or c =
     let here : OpenAt b.key t.lots (Some c.in-Some.place) = search rules in
     let grew : (c.from_residual.result, t) ≡ grown_at c.in-Some.place b.units t = search rules in
     let p = grown_promised b.key b.units t (c.from_residual.result, t) c.lots.ensures.kept c.in-Some.place here grew in
-    record { booked = p.0; out_of_serials = p.1; brings_units = p.2; refusal_changes_nothing = search rules }
+    record { booked = p.0; out_of_serials = p.1; brings_units = p.2; one_lot_more = search rules; one_serial_more = search rules; refusal_changes_nothing = search rules }
 
 pub invariant_of-self : goal.invariant_of-self
 invariant_of-self c =
@@ -41,4 +41,4 @@ returns c =
     let here : OpenAt b.key t.lots (Some c.in-Some.place) = search rules in
     let grew : (Ok c.row-grown.result.serial, after) ≡ grown_at c.in-Some.place b.units t = search rules in
     let p = grown_promised b.key b.units t (Ok c.row-grown.result.serial, after) c.lots.ensures.kept c.in-Some.place here grew in
-    record { booked = p.0; out_of_serials = p.1; brings_units = p.2; refusal_changes_nothing = tt }
+    record { booked = p.0; out_of_serials = p.1; brings_units = p.2; one_lot_more = search rules; one_serial_more = search rules; refusal_changes_nothing = tt }
