@@ -89,7 +89,8 @@ impl Booked {
         Ok(())
     }
 
-    // A posting of each kind.
+    // A posting of each kind. Policy and day are passed side by side and make no struct:
+    // the one is the ledger's and the other the draft's, and nothing but these calls would name the pair.
     fn book_kind<P: Policy>(
         &mut self,
         policy: &P,

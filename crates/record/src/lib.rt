@@ -52,6 +52,7 @@ pub fn append_rows(
 {
     let all = written as usize + rows.len();
     room_for(book.len(), all)?;
+    // where there is room, a count of rows fits 16 bits
     put_rows(book, first_free(written as u16) as usize, rows);
     put_header(book, all as u16, header);
     Ok(())
