@@ -1,10 +1,9 @@
 -- What the closed form of a reduction draws, in order.
-use Rattle.std.proofs.Common.{◌≡◌, ℕ, ◌+◌, ◌-◌, ◌<◌, ◌≤◌, min, Bool, true, false, cond, not, ◌&&◌, eqb, leb, List, [], ◌∷◌, sym, refl, ap, ◌∙◌, subst, inl, inr, ⊎_elim, arith}
+use Rattle.std.proofs.Common.{◌≡◌, ℕ, ◌+◌, ◌-◌, ◌<◌, ◌≤◌, min, Bool, true, false, cond, not, ◌&&◌, eqb, List, [], ◌∷◌, sym, refl, ap, ◌∙◌, subst, inl, inr, ⊎_elim, arith}
 use Rattle.std.specs.List.{AllByRecursion}
 use Rattle.std.proofs.ByRecursion.{All-weaker}
 use Rattle.std.proofs.lemmas.Bool.{and_from, and_parts, and_right, cond_both, cond-true, cond-false, cases_Bool, cases_lt, both_ways, eqb-true, eqb-false, eq-eqb, ne_eqb}
 use Rattle.lots.specs.declared.rows.LotRow.{LotRow}
-use Rattle.lots.specs.Rows.{with_fewer}
 use Rattle.matching.specs.declared.wanted.Draw.{Draw}
 use Rattle.matching.specs.Sums.{sum_of}
 use Rattle.matching.specs.Matching.{units_if, units_matching}
@@ -130,9 +129,7 @@ member_draws lt g (r ∷ rs) a m ne =
 
 pub left_same : (f g : LotRow → ℕ) (xs : List LotRow) → AllByRecursion (λ r. f r ≡ g r) xs → lots_left f xs ≡ lots_left g xs
 left_same f g [] all = refl
-left_same f g (r ∷ rs) all =
-    ap (λ (n : ℕ). cond (leb r.units n) (lots_left f rs) (with_fewer r n ∷ lots_left f rs)) all.0
-    ∙ ap (λ (ys : List LotRow). cond (leb r.units (g r)) ys (with_fewer r (g r) ∷ ys)) (left_same f g rs all.1)
+left_same f g (r ∷ rs) all = let here = all.0 in let ih = left_same f g rs all.1 in cc
 
 module _ (M : LotRow → Bool) (lt : LotRow → LotRow → Bool)
     (irr : (a : LotRow) → lt a a ≡ false) (trans : (a b c : LotRow) → lt a b ≡ true → lt b c ≡ true → lt a c ≡ true)

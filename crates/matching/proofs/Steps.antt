@@ -1,9 +1,10 @@
 -- One draw from the earliest matching lot x, which stands between the lots ys and zs, and then the rest.
-use Rattle.std.proofs.Common.{◌≡◌, ℕ, ◌+◌, ◌-◌, ◌<◌, ◌≤◌, min, Bool, true, false, cond, ◌&&◌, eqb, leb, ◌⊎◌, List, [], ◌∷◌, ◌++◌, length, get_or, refl, ap, ◌∙◌, ⊎_elim, arith}
+use Rattle.std.proofs.Common.{◌≡◌, ℕ, ◌+◌, ◌-◌, ◌<◌, ◌≤◌, min, Bool, true, false, cond, ◌&&◌, eqb, ◌⊎◌, List, [], ◌∷◌, ◌++◌, length, get_or, refl, ap, ◌∙◌, ⊎_elim, arith}
 use native.Mathlib.Nat.{sub-zero}
 use Rattle.std.specs.List.{AllByRecursion}
 use Rattle.std.proofs.ByRecursion.{All-weaker, All-from_get_or}
-use Rattle.std.proofs.lemmas.Bool.{and_from, and_right, cond_both, cond-true, cond-false, le-leb, lt-leb, eq-eqb, ne_eqb, eqb-false}
+use Rattle.std.proofs.lemmas.Bool.{and_from, and_right, cond_both, cond-true, cond-false, ne_eqb}
+use Rattle.std.proofs.lemmas.Bool.Decides.{nat_tests}
 use Rattle.lots.specs.declared.rows.LotRow.{LotRow}
 use Rattle.lots.specs.Rows.{no_lot, with_fewer}
 use Rattle.matching.specs.declared.wanted.Draw.{Draw}
@@ -21,18 +22,15 @@ sum_of_split f (y ∷ ys) x zs = let ih = sum_of_split f ys x zs in omega arith
 -- draws
 draws_same : (lt : LotRow → LotRow → Bool) (f g : LotRow → ℕ) (xs : List LotRow) → AllByRecursion (λ r. f r ≡ g r) xs → draws_in_order lt f xs ≡ draws_in_order lt g xs
 draws_same lt f g [] all = refl
-draws_same lt f g (r ∷ rs) all =
-    ap (λ (n : ℕ). cond (eqb n 0) (draws_in_order lt f rs) (insert_draw lt (record { lot = r; units = n }) (draws_in_order lt f rs))) all.0
-    ∙ ap (λ (ds : List Draw). cond (eqb (g r) 0) ds (insert_draw lt (record { lot = r; units = g r }) ds)) (draws_same lt f g rs all.1)
+draws_same lt f g (r ∷ rs) all = let here = all.0 in let ih = draws_same lt f g rs all.1 in cc
 
 draws_none : (lt : LotRow → LotRow → Bool) (f : LotRow → ℕ) (xs : List LotRow) → AllByRecursion (λ r. f r ≡ 0) xs → draws_in_order lt f xs ≡ []
 draws_none lt f [] all = refl
-draws_none lt f (r ∷ rs) all =
-    cond-true (eqb (f r) 0) (draws_in_order lt f rs) (insert_draw lt (record { lot = r; units = f r }) (draws_in_order lt f rs)) (eq-eqb (f r) 0 all.0) ∙ draws_none lt f rs all.1
+draws_none lt f (r ∷ rs) all = let here = all.0 in let ih = draws_none lt f rs all.1 in grind (arith, nat_tests)
 
 insert_front : (lt : LotRow → LotRow → Bool) (d : Draw) (ds : List Draw) → AllByRecursion (λ e. lt d.lot e.lot ≡ true) ds → insert_draw lt d ds ≡ d ∷ ds
 insert_front lt d [] all = refl
-insert_front lt d (e ∷ es) all = cond-true (lt d.lot e.lot) (d ∷ e ∷ es) (e ∷ insert_draw lt d es) all.0
+insert_front lt d (e ∷ es) all = let here = all.0 in cc
 
 -- x gives something, and comes before each other lot that does
 draws_first : (lt : LotRow → LotRow → Bool) (f : LotRow → ℕ) (ys : List LotRow) (x : LotRow) (zs : List LotRow) → (f x ≡ 0 → ⊥)
@@ -46,10 +44,9 @@ draws_first lt f (y ∷ ys) x zs some all =
     let dx : Draw = record { lot = x; units = f x } in
     let dy : Draw = record { lot = y; units = f y } in
     let D = draws_in_order lt f (ys ++ zs) in
-    ap (λ (ds : List Draw). cond (eqb (f y) 0) ds (insert_draw lt dy ds)) (draws_first lt f ys x zs some all.1)
-    ∙ by_bool (eqb (f y) 0) (λ (b : Bool). cond b (dx ∷ D) (insert_draw lt dy (dx ∷ D)) ≡ dx ∷ cond b D (insert_draw lt dy D))
-    (λ _. refl)
-    (λ e. cond-false (lt y x) (dy ∷ dx ∷ D) (dx ∷ insert_draw lt dy D) (all.0 (eqb-false (f y) 0 e)).0)
+    let ih = draws_first lt f ys x zs some all.1 in
+    let after = all.0 in
+    grind (arith, nat_tests)
 
 -- what is left
 fewer_none : (r : LotRow) → with_fewer r 0 ≡ r
@@ -60,28 +57,25 @@ left_none f [] none some = refl
 left_none f (r ∷ rs) none some =
     let z = none.0 in
     let l = some.0 in
-    cond-false (leb r.units (f r)) (lots_left f rs) (with_fewer r (f r) ∷ lots_left f rs) (lt-leb r.units (f r) (omega arith))
-    ∙ ap (λ (n : ℕ). with_fewer r n ∷ lots_left f rs) z
-    ∙ ap (λ (s : LotRow). s ∷ lots_left f rs) (fewer_none r)
-    ∙ ap (λ (ss : List LotRow). r ∷ ss) (left_none f rs none.1 some.1)
+    let same = fewer_none r in
+    let ih = left_none f rs none.1 some.1 in
+    grind (arith, nat_tests)
 
 left_gone : (f : LotRow → ℕ) (ys : List LotRow) (x : LotRow) (zs : List LotRow) → x.units ≤ f x → lots_left f (ys ++ x ∷ zs) ≡ lots_left f (ys ++ zs)
-left_gone f [] x zs h = cond-true (leb x.units (f x)) (lots_left f zs) (with_fewer x (f x) ∷ lots_left f zs) (le-leb x.units (f x) h)
-left_gone f (y ∷ ys) x zs h = ap (λ (rs : List LotRow). cond (leb y.units (f y)) rs (with_fewer y (f y) ∷ rs)) (left_gone f ys x zs h)
+left_gone f [] x zs h = grind (arith, nat_tests)
+left_gone f (y ∷ ys) x zs h = let ih = left_gone f ys x zs h in cc
 
 left_part : (f : LotRow → ℕ) (ys : List LotRow) (x : LotRow) (zs : List LotRow) → f x < x.units → AllByRecursion (λ r. f r ≡ 0) (ys ++ zs) → AllByRecursion (λ r. 1 ≤ r.units) (ys ++ zs)
     → lots_left f (ys ++ x ∷ zs) ≡ ys ++ with_fewer x (f x) ∷ zs
 left_part f [] x zs h none some =
-    cond-false (leb x.units (f x)) (lots_left f zs) (with_fewer x (f x) ∷ lots_left f zs) (lt-leb x.units (f x) h)
-    ∙ ap (λ (ss : List LotRow). with_fewer x (f x) ∷ ss) (left_none f zs none some)
+    let rest = left_none f zs none some in
+    grind (arith, nat_tests)
 left_part f (y ∷ ys) x zs h none some =
     let z = none.0 in
     let l = some.0 in
-    let rest = lots_left f (ys ++ x ∷ zs) in
-    cond-false (leb y.units (f y)) rest (with_fewer y (f y) ∷ rest) (lt-leb y.units (f y) (omega arith))
-    ∙ ap (λ (n : ℕ). with_fewer y n ∷ rest) z
-    ∙ ap (λ (s : LotRow). s ∷ rest) (fewer_none y)
-    ∙ ap (λ (ss : List LotRow). y ∷ ss) (left_part f ys x zs h none.1 some.1)
+    let same = fewer_none y in
+    let ih = left_part f ys x zs h none.1 some.1 in
+    grind (arith, nat_tests)
 
 -- x matches, and comes before each other lot that does
 pub record Leads (M : LotRow → Bool) (lt : LotRow → LotRow → Bool) (ys : List LotRow) (x : LotRow) (zs : List LotRow) : Type 0 where
