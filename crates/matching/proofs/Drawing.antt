@@ -3,6 +3,7 @@ use Rattle.std.proofs.Common.{◌≡◌, ℕ, ◌+◌, ◌-◌, ◌<◌, ◌≤�
 use Rattle.std.specs.List.{AllByRecursion}
 use Rattle.std.proofs.ByRecursion.{All-weaker}
 use Rattle.std.proofs.lemmas.Bool.{and_from, and_parts, and_right, cond_both, cond-true, cond-false, cases_Bool, cases_lt, both_ways, eqb-true, eqb-false, eq-eqb, ne_eqb}
+use Rattle.std.proofs.lemmas.Bool.Decides.{nat_tests}
 use Rattle.lots.specs.declared.rows.LotRow.{LotRow}
 use Rattle.matching.specs.declared.wanted.Draw.{Draw}
 use Rattle.matching.specs.Sums.{sum_of}
@@ -50,14 +51,14 @@ sum_of_inserted : (lt : LotRow → LotRow → Bool) (f : LotRow → ℕ) (r : Lo
 sum_of_inserted lt f r [] = refl
 sum_of_inserted lt f r (x ∷ xs) =
     let ih = sum_of_inserted lt f r xs in
-    cond_both (lt r x) (r ∷ x ∷ xs) (x ∷ insert lt r xs) (λ ys. sum_of f ys ≡ f r + sum_of f (x ∷ xs)) (λ _. refl) (λ _. omega arith)
+    grind arith
 
 sum_of_sorted : (M : LotRow → Bool) (lt : LotRow → LotRow → Bool) (f : LotRow → ℕ) (xs : List LotRow) → sum_of f (sorted M lt xs) ≡ sum_of (λ r. cond (M r) (f r) 0) xs
 sum_of_sorted M lt f [] = refl
 sum_of_sorted M lt f (r ∷ rs) =
     let ih = sum_of_sorted M lt f rs in
     let i = sum_of_inserted lt f r (sorted M lt rs) in
-    by_bool (M r) (λ (b : Bool). sum_of f (cond b (insert lt r (sorted M lt rs)) (sorted M lt rs)) ≡ cond b (f r) 0 + sum_of (λ r. cond (M r) (f r) 0) rs) (λ _. omega arith) (λ _. omega arith)
+    grind arith
 
 all_insert : (P : LotRow → Type 0) (lt : LotRow → LotRow → Bool) (r : LotRow) (xs : List LotRow) → P r → AllByRecursion P xs → AllByRecursion P (insert lt r xs)
 all_insert P lt r [] p all = (p, tt)
@@ -83,15 +84,12 @@ sum_of_one f [] r ri m = absurd m
 sum_of_one f (x ∷ xs) r ri m =
     ⊎_elim
     (λ (e : x ≡ r).
-    let here : cond (eqb x.serial r.serial) (f x) 0 ≡ f r = cond-true (eqb x.serial r.serial) (f x) 0 (eq-eqb x.serial r.serial (ap (λ (y : LotRow). y.serial) e)) ∙ ap f e in
-    let s : x.serial ≡ r.serial = ap (λ (y : LotRow). y.serial) e in
-    let rest = sum_of_zero_all (λ y. cond (eqb y.serial r.serial) (f y) 0) xs (All-weaker (λ y. x.serial < y.serial) (λ y. cond (eqb y.serial r.serial) (f y) 0 ≡ 0) (λ y l. cond-false (eqb y.serial r.serial) (f y) 0 (ne_eqb y.serial r.serial (λ q. omega arith))) xs ri.0) in
-    omega arith)
+    let rest = sum_of_zero_all (λ y. cond (eqb y.serial r.serial) (f y) 0) xs (All-weaker (λ y. x.serial < y.serial) (λ y. cond (eqb y.serial r.serial) (f y) 0 ≡ 0) (λ y l. grind (arith, nat_tests)) xs ri.0) in
+    grind (arith, nat_tests))
     (λ (q : Member xs r).
     let l = all_member (λ y. x.serial < y.serial) xs r ri.0 q in
-    let off : cond (eqb x.serial r.serial) (f x) 0 ≡ 0 = cond-false (eqb x.serial r.serial) (f x) 0 (ne_eqb x.serial r.serial (λ z. omega arith)) in
     let ih = sum_of_one f xs r ri.1 q in
-    omega arith)
+    grind (arith, nat_tests))
     m
 
 -- draws
@@ -138,16 +136,9 @@ module _ (M : LotRow → Bool) (lt : LotRow → LotRow → Bool)
   units_before_gap : (xs : List LotRow) (a b : LotRow) → Member xs a → M a ≡ true → lt a b ≡ true → units_before M lt xs a + a.units ≤ units_before M lt xs b
   units_before_gap xs a b there fits before =
       sum_of_gap (units_if (λ y. M y && lt y a)) (units_if (λ y. M y && lt y b)) a.units
-      (λ r. ⊎_elim
-      (λ (y : (M r && lt r a) ≡ true).
-      let p = and_parts (M r) (lt r a) y in
-      let q = cond-true (M r && lt r b) r.units 0 (and_from (M r) (lt r b) p.0 (trans r a b p.1 before)) in
-      let s = cond-true (M r && lt r a) r.units 0 y in omega arith)
-      (λ (n : (M r && lt r a) ≡ false). let s = cond-false (M r && lt r a) r.units 0 n in omega arith)
-      (cases_Bool (M r && lt r a)))
+      (λ r. let t = trans r a b in grind arith)
       xs a there
-      (let p = cond-false (M a && lt a a) a.units 0 (and_right (M a) (lt a a) (irr a)) in
-      let q = cond-true (M a && lt a b) a.units 0 (and_from (M a) (lt a b) fits before) in omega arith)
+      (let i = irr a in grind arith)
 
   ordered_insert : (r : LotRow) (xs : List LotRow) → AllByRecursion (λ s. r.serial ≡ s.serial → ⊥) xs → Ordered lt xs → Ordered lt (insert lt r xs)
   ordered_insert r [] apart o = (tt, tt)
@@ -168,9 +159,10 @@ module _ (M : LotRow → Bool) (lt : LotRow → LotRow → Bool)
   given_in_order [] u o = omega arith
   given_in_order (z ∷ zs) u o =
       let ih = given_in_order zs (u - z.units) o.1 in
-      let own : cond (lt z z) z.units 0 ≡ 0 = cond-false (lt z z) z.units 0 (irr z) in
+      let i = irr z in
+      let own : cond (lt z z) z.units 0 ≡ 0 = grind arith in
       let later : sum_of (λ y. cond (lt y z) y.units 0) zs ≡ 0 = sum_of_zero_all (λ y. cond (lt y z) y.units 0) zs (All-weaker (λ y. lt z y ≡ true) (λ y. cond (lt y z) y.units 0 ≡ 0)
-      (λ y l. cond-false (lt y z) y.units 0 (⊎_elim (λ (b : lt y z ≡ true). absurd (both_ways (lt z z) (irr z) (trans z y z l b))) (λ (b : lt y z ≡ false). b) (cases_Bool (lt y z)))) zs o.0) in
+      (λ y l. let t = trans z y z l in grind arith) zs o.0) in
       let rest = sum_of_same_all (λ r. min r.units (u - sum_of (λ y. cond (lt y r) y.units 0) (z ∷ zs))) (λ r. min r.units (u - z.units - sum_of (λ y. cond (lt y r) y.units 0) zs)) zs
       (All-weaker (λ r. lt z r ≡ true) (λ r. min r.units (u - sum_of (λ y. cond (lt y r) y.units 0) (z ∷ zs)) ≡ min r.units (u - z.units - sum_of (λ y. cond (lt y r) y.units 0) zs))
       (λ r l. let c = cond-true (lt z r) z.units 0 l in omega arith) zs o.0) in
@@ -179,7 +171,7 @@ module _ (M : LotRow → Bool) (lt : LotRow → LotRow → Bool)
   units_before_sorted : (xs : List LotRow) (r : LotRow) → sum_of (λ y. cond (lt y r) y.units 0) (sorted M lt xs) ≡ units_before M lt xs r
   units_before_sorted xs r =
       sum_of_sorted M lt (λ y. cond (lt y r) y.units 0) xs
-      ∙ sum_of_same (λ y. cond (M y) (cond (lt y r) y.units 0) 0) (units_if (λ y. M y && lt y r)) (λ y. by_bool (M y) (λ (b : Bool). cond b (cond (lt y r) y.units 0) 0 ≡ cond (b && lt y r) y.units 0) (λ _. refl) (λ _. refl)) xs
+      ∙ sum_of_same (λ y. cond (M y) (cond (lt y r) y.units 0) 0) (units_if (λ y. M y && lt y r)) (λ y. grind arith) xs
 
   gives_all : (xs : List LotRow) (u : ℕ) → SerialsRise xs → sum_of (gives M lt u xs) xs ≡ min u (units_matching M xs)
   gives_all xs u ri =
@@ -197,7 +189,7 @@ module _ (M : LotRow → Bool) (lt : LotRow → LotRow → Bool)
         omega arith
 
     fits_if : (r : LotRow) → (gives M lt u xs r ≡ 0 → ⊥) → M r ≡ true
-    fits_if r ne = ⊎_elim (λ (y : M r ≡ true). y) (λ (n : M r ≡ false). absurd (ne (cond-false (M r) (min r.units (u - units_before M lt xs r)) 0 n))) (cases_Bool (M r))
+    fits_if r ne = grind arith
 
     all_from_matches : AllByRecursion (FromMatch M xs) (draws_in_order lt (gives M lt u xs) xs)
     all_from_matches = all_draws (FromMatch M xs) lt (gives M lt u xs) xs (all_from_member (λ r. (gives M lt u xs r ≡ 0 → ⊥) → FromMatch M xs (record { lot = r; units = gives M lt u xs r })) xs
@@ -221,11 +213,7 @@ module _ (M : LotRow → Bool) (lt : LotRow → LotRow → Bool)
     pub emptied : (r a : LotRow) → (gives M lt u xs r ≡ 0 → ⊥) → Member xs a → M a ≡ true → lt a r ≡ true → gives M lt u xs a ≡ a.units
     emptied r a ne there fits before =
         let gap = units_before_gap xs a r there fits before in
-        let gr = cond-true (M r) (min r.units (u - units_before M lt xs r)) 0 (fits_if r ne) in
-        let ga = cond-true (M a) (min a.units (u - units_before M lt xs a)) 0 fits in
-        let left : min r.units (u - units_before M lt xs r) ≡ 0 → ⊥ = λ z. ne (gr ∙ z) in
-        let with_more : units_before M lt xs r < u = ⊎_elim (λ (l : units_before M lt xs r < u). l) (λ (l : u ≤ units_before M lt xs r). absurd (left (omega arith))) (cases_lt (units_before M lt xs r) u) in
-        omega arith
+        grind arith
 
     all_emptied : AllByRecursion (λ d. (a : LotRow) → Member xs a → M a ≡ true → lt a d.lot ≡ true → Member (draws_in_order lt (gives M lt u xs) xs) (record { lot = a; units = a.units })) (draws_in_order lt (gives M lt u xs) xs)
     all_emptied = all_draws (λ d. (a : LotRow) → Member xs a → M a ≡ true → lt a d.lot ≡ true → Member (draws_in_order lt (gives M lt u xs) xs) (record { lot = a; units = a.units })) lt (gives M lt u xs) xs
@@ -238,7 +226,7 @@ module _ (M : LotRow → Bool) (lt : LotRow → LotRow → Bool)
     drawn_is_given : (r : LotRow) → Member xs r → gives M lt u xs r ≡ units_drawn (draws_in_order lt (gives M lt u xs) xs) r
     drawn_is_given r there =
         let g = gives M lt u xs in
-        sym (sum_of_draws (λ d. cond (eqb d.lot.serial r.serial) d.units 0) lt g (λ y z. cond_both (eqb y.serial r.serial) (g y) 0 (λ n. n ≡ 0) (λ _. z) (λ _. refl)) xs ∙ sum_of_one g xs r ri there)
+        sym (sum_of_draws (λ d. cond (eqb d.lot.serial r.serial) d.units 0) lt g (λ y z. grind arith) xs ∙ sum_of_one g xs r ri there)
 
     pub closed_form_is_drawn : Drawn M lt u xs (lots_left (gives M lt u xs) xs) (draws_in_order lt (gives M lt u xs) xs)
     closed_form_is_drawn = record {
