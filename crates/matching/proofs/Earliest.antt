@@ -23,10 +23,10 @@ member_same (x ∷ xs) ri a b m n e =
     ⊎_elim
     (λ (p : x ≡ a). ⊎_elim
     (λ (q : x ≡ b). sym p ∙ q)
-    (λ (q : Member xs b). let l = all_member (λ s. x.serial < s.serial) xs b ri.0 q in let s = ap (λ (r : LotRow). r.serial) p in absurd (omega arith))
+    (λ (q : Member xs b). let l = all_member (λ s. x.serial < s.serial) xs b ri.0 q in grind arith)
     n)
     (λ (p : Member xs a). ⊎_elim
-    (λ (q : x ≡ b). let l = all_member (λ s. x.serial < s.serial) xs a ri.0 p in let s = ap (λ (r : LotRow). r.serial) q in absurd (omega arith))
+    (λ (q : x ≡ b). let l = all_member (λ s. x.serial < s.serial) xs a ri.0 p in grind arith)
     (λ (q : Member xs b). member_same xs ri.1 a b p q e)
     n)
     m
@@ -35,22 +35,22 @@ module _ (M : LotRow → Bool) (lt : LotRow → LotRow → Bool)
     (irr : (a : LotRow) → lt a a ≡ false) (trans : (a b c : LotRow) → lt a b ≡ true → lt b c ≡ true → lt a c ≡ true)
     (one : (a b : LotRow) → (a.serial ≡ b.serial → ⊥) → lt a b ≡ not (lt b a)) where
   best_matching : (r : LotRow) (rs : List LotRow) → M r ≡ true → (e : Option LotRow) → Best M lt rs e → Best M lt (r ∷ rs) (earlier lt r e)
-  best_matching r rs m None all = record { there = inl refl; fits = m; least = λ a there fits. ⊎_elim (λ (q : r ≡ a). subst (λ (z : LotRow). lt z r ≡ false) q (irr r)) (λ (q : Member rs a). absurd (both_ways (M a) (all_member (λ s. M s ≡ false) rs a all q) fits)) there }
+  best_matching r rs m None all = record { there = inl refl; fits = m; least = λ a there fits. ⊎_elim (λ (q : r ≡ a). let own = irr r in cc) (λ (q : Member rs a). let other = all_member (λ s. M s ≡ false) rs a all q in cc) there }
   best_matching r rs m (Some b) best =
       cond_both (lt r b) (Some r) (Some b) (λ e. Best M lt (r ∷ rs) e)
       (λ before. record {
         there = inl refl;
         fits = m;
         least = λ a there fits. ⊎_elim
-            (λ (q : r ≡ a). subst (λ (z : LotRow). lt z r ≡ false) q (irr r))
-            (λ (q : Member rs a). ⊎_elim (λ (t : lt a r ≡ true). absurd (both_ways (lt a b) (best.least a q fits) (trans a r b t before))) (λ (f : lt a r ≡ false). f) (cases_Bool (lt a r)))
+            (λ (q : r ≡ a). let own = irr r in cc)
+            (λ (q : Member rs a). let least = best.least a q fits in let t = trans a r b in grind arith)
             there;
       })
       (λ after. record {
         there = inr best.there;
         fits = best.fits;
         least = λ a there fits. ⊎_elim
-            (λ (q : r ≡ a). subst (λ (z : LotRow). lt z b ≡ false) q after)
+            (λ (q : r ≡ a). cc)
             (λ (q : Member rs a). best.least a q fits)
             there;
       })
@@ -61,7 +61,7 @@ module _ (M : LotRow → Bool) (lt : LotRow → LotRow → Bool)
     there = inr best.there;
     fits = best.fits;
     least = λ a there fits. ⊎_elim
-        (λ (q : r ≡ a). absurd (both_ways (M a) (subst (λ (z : LotRow). M z ≡ false) q m) fits))
+        (λ (q : r ≡ a). cc)
         (λ (q : Member rs a). best.least a q fits)
         there;
   }
@@ -77,16 +77,16 @@ module _ (M : LotRow → Bool) (lt : LotRow → LotRow → Bool)
   earliest_same xs ri a b p q =
       ⊎_elim
       (λ (e : a.serial ≡ b.serial). member_same xs ri a b p.there q.there e)
-      (λ (ne : a.serial ≡ b.serial → ⊥). absurd (both_ways (lt a b) (q.least a p.there p.fits) (one a b ne ∙ ap not (p.least b q.there q.fits))))
+      (λ (ne : a.serial ≡ b.serial → ⊥). let lower = q.least a p.there p.fits in let upper = p.least b q.there q.fits in let o = one a b ne in grind arith)
       (cases_eq a.serial b.serial)
 
   -- the policy's answer is its answer for the earliest lot
   unsettled_at : (f : LotRow → Bool) (xs : List LotRow) → (e : Option LotRow) → Best M lt xs e → settled_with f e ≡ false → (r : LotRow) × Earliest M lt xs r × (f r ≡ false)
-  unsettled_at f xs None all a = absurd (both_ways true a refl)
+  unsettled_at f xs None all a = cc
   unsettled_at f xs (Some b) best a = (b, best, a)
 
   answer_at : (f : LotRow → Bool) (xs : List LotRow) → SerialsRise xs → (r : LotRow) → Earliest M lt xs r → (e : Option LotRow) → Best M lt xs e → settled_with f e ≡ f r
-  answer_at f xs ri r first None all = absurd (both_ways (M r) (all_member (λ s. M s ≡ false) xs r all first.there) first.fits)
+  answer_at f xs ri r first None all = let other = all_member (λ s. M s ≡ false) xs r all first.there in let fits = first.fits in cc
   answer_at f xs ri r first (Some b) best = ap f (earliest_same xs ri b r best first)
 
 member_at : (xs : List LotRow) (i : ℕ) → i < length xs → Member xs (get_or xs i no_lot)
@@ -104,7 +104,7 @@ earliest_at M lt xs i e = record {
 
 none_earliest : (M : LotRow → Bool) (lt : LotRow → LotRow → Bool) (xs : List LotRow) → AllByRecursion (λ r. M r ≡ false) xs → earliest M lt xs ≡ None
 none_earliest M lt [] all = refl
-none_earliest M lt (r ∷ rs) all = cond-false (M r) (earlier lt r (earliest M lt rs)) (earliest M lt rs) all.0 ∙ none_earliest M lt rs all.1
+none_earliest M lt (r ∷ rs) all = let here = all.0 in let ih = none_earliest M lt rs all.1 in cc
 
 module _ (o : Order) (keeps : Keeps o) (M : LotRow → Bool) (u : ℕ) (xs : List LotRow) where
   best : Best M (o.before u) xs (earliest M (o.before u) xs)

@@ -37,9 +37,9 @@ draws_first : (lt : LotRow → LotRow → Bool) (f : LotRow → ℕ) (ys : List 
     → AllByRecursion (λ r. (f r ≡ 0 → ⊥) → (lt r x ≡ false) × (lt x r ≡ true)) (ys ++ zs)
     → draws_in_order lt f (ys ++ x ∷ zs) ≡ record { lot = x; units = f x } ∷ draws_in_order lt f (ys ++ zs)
 draws_first lt f [] x zs some all =
-    cond-false (eqb (f x) 0) (draws_in_order lt f zs) (insert_draw lt (record { lot = x; units = f x }) (draws_in_order lt f zs)) (ne_eqb (f x) 0 some)
-    ∙ insert_front lt (record { lot = x; units = f x }) (draws_in_order lt f zs)
-    (all_draws (λ e. lt x e.lot ≡ true) lt f zs (All-weaker (λ r. (f r ≡ 0 → ⊥) → (lt r x ≡ false) × (lt x r ≡ true)) (λ r. (f r ≡ 0 → ⊥) → lt x r ≡ true) (λ r h ne. (h ne).1) zs all))
+    let front = insert_front lt (record { lot = x; units = f x }) (draws_in_order lt f zs)
+    (all_draws (λ e. lt x e.lot ≡ true) lt f zs (All-weaker (λ r. (f r ≡ 0 → ⊥) → (lt r x ≡ false) × (lt x r ≡ true)) (λ r. (f r ≡ 0 → ⊥) → lt x r ≡ true) (λ r h ne. (h ne).1) zs all)) in
+    grind (arith, nat_tests)
 draws_first lt f (y ∷ ys) x zs some all =
     let dx : Draw = record { lot = x; units = f x } in
     let dy : Draw = record { lot = y; units = f y } in
@@ -89,40 +89,37 @@ module _ (M : LotRow → Bool) (lt : LotRow → LotRow → Bool) (ys : List LotR
   before_none =
       let f = units_if (λ y. M y && lt y x) in
       let s = sum_of_split f ys x zs in
-      let own : f x ≡ 0 = cond-false (M x && lt x x) x.units 0 (and_right (M x) (lt x x) leads.own) in
+      let own = leads.own in
       let rest = sum_of_zero_all f (ys ++ zs) (All-weaker (λ r. M r ≡ true → (lt r x ≡ false) × (lt x r ≡ true)) (λ r. f r ≡ 0)
-      (λ r h. by_bool (M r) (λ (b : Bool). (b ≡ true → (lt r x ≡ false) × (lt x r ≡ true)) → cond (b && lt r x) r.units 0 ≡ 0) (λ _ k. cond-false (lt r x) r.units 0 (k refl).0) (λ _ _. refl) h)
+      (λ r h. grind arith)
       (ys ++ zs) leads.others) in
-      omega arith
+      grind arith
 
   -- x comes before each other matching lot
   before_more : (r : LotRow) → lt x r ≡ true → units_before M lt (ys ++ x ∷ zs) r ≡ x.units + units_before M lt (ys ++ zs) r
   before_more r l =
       let f = units_if (λ y. M y && lt y r) in
       let s = sum_of_split f ys x zs in
-      let own : f x ≡ x.units = cond-true (M x && lt x r) x.units 0 (and_from (M x) (lt x r) leads.fits l) in
-      omega arith
+      let fits = leads.fits in
+      grind arith
 
   gives_x : (n : ℕ) → gives M lt n (ys ++ x ∷ zs) x ≡ min x.units n
-  gives_x n = let z = before_none in cond-true (M x) (min x.units (n - units_before M lt (ys ++ x ∷ zs) x)) 0 leads.fits ∙ omega arith
+  gives_x n = let z = before_none in let fits = leads.fits in grind arith
 
   gives_others : (n : ℕ) → x.units ≤ n → AllByRecursion (λ r. gives M lt n (ys ++ x ∷ zs) r ≡ gives M lt (n - x.units) (ys ++ zs) r) (ys ++ zs)
   gives_others n h = All-weaker (λ r. M r ≡ true → (lt r x ≡ false) × (lt x r ≡ true)) (λ r. gives M lt n (ys ++ x ∷ zs) r ≡ gives M lt (n - x.units) (ys ++ zs) r)
-      (λ r k. by_bool (M r) (λ (b : Bool). (b ≡ true → (lt r x ≡ false) × (lt x r ≡ true)) → cond b (min r.units (n - units_before M lt (ys ++ x ∷ zs) r)) 0 ≡ cond b (min r.units (n - x.units - units_before M lt (ys ++ zs) r)) 0)
-      (λ _ k. let m = before_more r (k refl).1 in omega arith) (λ _ _. refl) k)
+      (λ r k. let m = before_more r in grind arith)
       (ys ++ zs) leads.others
 
   gives_nothing : (n : ℕ) → n ≤ x.units → AllByRecursion (λ r. gives M lt n (ys ++ x ∷ zs) r ≡ 0) (ys ++ zs)
   gives_nothing n h = All-weaker (λ r. M r ≡ true → (lt r x ≡ false) × (lt x r ≡ true)) (λ r. gives M lt n (ys ++ x ∷ zs) r ≡ 0)
-      (λ r k. by_bool (M r) (λ (b : Bool). (b ≡ true → (lt r x ≡ false) × (lt x r ≡ true)) → cond b (min r.units (n - units_before M lt (ys ++ x ∷ zs) r)) 0 ≡ 0)
-      (λ _ k. let m = before_more r (k refl).1 in omega arith) (λ _ _. refl) k)
+      (λ r k. let m = before_more r in grind arith)
       (ys ++ zs) leads.others
 
   -- only a matching lot gives something
   ordered : (n : ℕ) → AllByRecursion (λ r. (gives M lt n (ys ++ x ∷ zs) r ≡ 0 → ⊥) → (lt r x ≡ false) × (lt x r ≡ true)) (ys ++ zs)
   ordered n = All-weaker (λ r. M r ≡ true → (lt r x ≡ false) × (lt x r ≡ true)) (λ r. (gives M lt n (ys ++ x ∷ zs) r ≡ 0 → ⊥) → (lt r x ≡ false) × (lt x r ≡ true))
-      (λ r k. by_bool (M r) (λ (b : Bool). (b ≡ true → (lt r x ≡ false) × (lt x r ≡ true)) → (cond b (min r.units (n - units_before M lt (ys ++ x ∷ zs) r)) 0 ≡ 0 → ⊥) → (lt r x ≡ false) × (lt x r ≡ true))
-      (λ _ k _. k refl) (λ _ _ ne. absurd (ne refl)) k)
+      (λ r k ne. (grind arith, grind arith))
       (ys ++ zs) leads.others
 
   -- x is drawn to its last unit
@@ -159,10 +156,7 @@ module _ (M : LotRow → Bool) (lt : LotRow → LotRow → Bool) (n : ℕ) (xs :
   gives_none : AllByRecursion (λ r. gives M lt n xs r ≡ 0) xs
   gives_none = All-from_get_or (λ r. gives M lt n xs r ≡ 0) xs no_lot (λ i h.
       let r = get_or xs i no_lot in
-      ⊎_elim
-      (λ (z : n ≡ 0). cond_both (M r) (min r.units (n - units_before M lt xs r)) 0 (λ m. m ≡ 0) (λ _. omega arith) (λ _. refl))
-      (λ (f : NoneMatch M xs (length xs)). cond-false (M r) (min r.units (n - units_before M lt xs r)) 0 (f i h))
-      none)
+      ⊎_elim (λ (z : n ≡ 0). grind arith) (λ (f : NoneMatch M xs (length xs)). let other = f i h in grind arith) none)
 
   pub draws_nothing : draws M lt n xs ≡ []
   draws_nothing = draws_none lt (gives M lt n xs) xs gives_none

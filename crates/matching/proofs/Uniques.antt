@@ -3,6 +3,7 @@ use Rattle.std.proofs.Common.{◌≡◌, ℕ, ◌-◌, ◌≤◌, min, Bool, tru
 use Rattle.std.specs.List.{AllByRecursion}
 use Rattle.std.proofs.ByRecursion.{All-weaker}
 use Rattle.std.proofs.lemmas.Bool.{cond_both, cond-true, cond-false, both_ways, eq-eqb, ne_eqb}
+use Rattle.std.proofs.lemmas.Bool.Decides.{nat_tests}
 use Rattle.lots.specs.declared.rows.LotRow.{LotRow}
 use Rattle.matching.specs.declared.wanted.Draw.{Draw}
 use Rattle.matching.specs.Sums.{sum_of}
@@ -33,14 +34,14 @@ member_sorted M lt x [] m f = absurd m
 member_sorted M lt x (r ∷ rs) m f =
     cond_both (M r) (insert lt r (sorted M lt rs)) (sorted M lt rs) (λ zs. Member zs x)
     (λ _. member_inserted lt r x (sorted M lt rs) (⊎_elim (λ (q : r ≡ x). inl q) (λ (q : Member rs x). inr (member_sorted M lt x rs q f)) m))
-    (λ e. ⊎_elim (λ (q : r ≡ x). absurd (both_ways (M x) (subst (λ (z : LotRow). M z ≡ false) q e) f)) (λ (q : Member rs x). member_sorted M lt x rs q f) m)
+    (λ e. ⊎_elim (λ (q : r ≡ x). cc) (λ (q : Member rs x). member_sorted M lt x rs q f) m)
 
 sorted_member : (M : LotRow → Bool) (lt : LotRow → LotRow → Bool) (x : LotRow) (xs : List LotRow) → Member (sorted M lt xs) x → Member xs x × (M x ≡ true)
 sorted_member M lt x [] = λ m. absurd m
 sorted_member M lt x (r ∷ rs) =
     cond_both (M r) (insert lt r (sorted M lt rs)) (sorted M lt rs) (λ zs. Member zs x → Member (r ∷ rs) x × (M x ≡ true))
     (λ e m. ⊎_elim
-    (λ (q : r ≡ x). (inl q, subst (λ (z : LotRow). M z ≡ true) q e))
+    (λ (q : r ≡ x). (inl q, cc))
     (λ (q : Member (sorted M lt rs) x). let h = sorted_member M lt x rs q in (inr h.0, h.1))
     (inserted_member lt r x (sorted M lt rs) m))
     (λ e m. let h = sorted_member M lt x rs m in (inr h.0, h.1))
@@ -52,7 +53,7 @@ in_turn u (z ∷ zs) = cond (eqb u 0) [] (record { lot = z; units = min z.units 
 
 in_turn_none : (u : ℕ) (zs : List LotRow) → u ≡ 0 → [] ≡ in_turn u zs
 in_turn_none u [] e = refl
-in_turn_none u (z ∷ zs) e = sym (cond-true (eqb u 0) [] (record { lot = z; units = min z.units u } ∷ in_turn (u - z.units) zs) (eq-eqb u 0 e))
+in_turn_none u (z ∷ zs) e = grind (arith, nat_tests)
 
 record From (zs : List LotRow) (d : Draw) : Type 0 where
   there : Member zs d.lot
@@ -67,7 +68,7 @@ record Fits (lt : LotRow → LotRow → Bool) (u : ℕ) (zs : List LotRow) (ds :
 
 module _ (lt : LotRow → LotRow → Bool) (irr : (a : LotRow) → lt a a ≡ false) (trans : (a b c : LotRow) → lt a b ≡ true → lt b c ≡ true → lt a c ≡ true) where
   never : (a b : LotRow) → lt a b ≡ true → a ≡ b → ⊥
-  never a b l e = both_ways (lt a a) (irr a) (subst (λ (z : LotRow). lt a z ≡ true) (sym e) l)
+  never a b l e = let own = irr a in cc
 
   -- a lot drawn first is the first of the lots
   first_lot : (z : LotRow) (zs : List LotRow) (d : Draw) (ds : List Draw) → Ordered lt (z ∷ zs) → AllByRecursion (λ e. lt d.lot e.lot ≡ true) ds → From (z ∷ zs) d
@@ -78,10 +79,11 @@ module _ (lt : LotRow → LotRow → Bool) (irr : (a : LotRow) → lt a a ≡ fa
       (λ (q : Member zs d.lot).
       let before = all_member (λ s. lt z s ≡ true) zs d.lot o.0 q in
       ⊎_elim
-      (λ (p : d ≡ record { lot = z; units = z.units }). sym (ap (λ (e : Draw). e.lot) p))
+      (λ (p : d ≡ record { lot = z; units = z.units }). cc)
       (λ (p : Member ds (record { lot = z; units = z.units })).
       let back = all_member (λ e. lt d.lot e.lot ≡ true) ds (record { lot = z; units = z.units }) later p in
-      absurd (both_ways (lt z z) (irr z) (trans z d.lot z before back)))
+      let own = irr z in
+      let t = trans z d.lot z before back in cc)
       (emptied z (inl refl) before))
       from.there
 
@@ -99,9 +101,9 @@ module _ (lt : LotRow → LotRow → Bool) (irr : (a : LotRow) → lt a a ≡ fa
       let most : d.units ≤ z.units = subst (λ (r : LotRow). d.units ≤ r.units) (sym lot) from.most in
       let all = f.exactly in
       let n : d.units ≡ min z.units u = omega arith in
-      ap (λ (e : Draw). e ∷ []) (same_draw d z (min z.units u) lot n)
-      ∙ ap (λ (es : List Draw). record { lot = z; units = min z.units u } ∷ es) (in_turn_none (u - z.units) zs (omega arith))
-      ∙ sym (cond-false (eqb u 0) [] (record { lot = z; units = min z.units u } ∷ in_turn (u - z.units) zs) (ne_eqb u 0 (λ q. omega arith)))
+      let same = same_draw d z (min z.units u) lot n in
+      let rest = in_turn_none (u - z.units) zs (omega arith) in
+      grind (arith, nat_tests)
   fits_in_turn (z ∷ zs) u (d ∷ e ∷ es) o f =
       let from = f.each.0 in
       let later = f.order.0 in
@@ -132,9 +134,9 @@ module _ (lt : LotRow → LotRow → Bool) (irr : (a : LotRow) → lt a a ≡ fa
             (g a (inr there) before))
             (e ∷ es) f.emptied.1;
       } in
-      ap (λ (x : Draw). x ∷ e ∷ es) (same_draw d z (min z.units u) lot (omega arith))
-      ∙ ap (λ (xs : List Draw). record { lot = z; units = min z.units u } ∷ xs) (fits_in_turn zs (u - z.units) (e ∷ es) o.1 rest)
-      ∙ sym (cond-false (eqb u 0) [] (record { lot = z; units = min z.units u } ∷ in_turn (u - z.units) zs) (ne_eqb u 0 (λ q. omega arith)))
+      let same = same_draw d z (min z.units u) lot (omega arith) in
+      let later = fits_in_turn zs (u - z.units) (e ∷ es) o.1 rest in
+      grind (arith, nat_tests)
 
   drawn_fits : (M : LotRow → Bool) (u : ℕ) (old new : List LotRow) (ds : List Draw) → Drawn M lt u old new ds → Fits lt u (sorted M lt old) ds
   drawn_fits M u old new ds D = record {
