@@ -2,7 +2,7 @@
 use Rattle.std.proofs.Common.{◌≡◌, ℕ, ◌+◌, ◌-◌, ◌<◌, ◌≤◌, min, Bool, true, false, cond, not, ◌&&◌, eqb, List, [], ◌∷◌, sym, refl, ap, ◌∙◌, subst, inl, inr, ⊎_elim, arith}
 use Rattle.std.specs.List.{AllByRecursion}
 use Rattle.std.proofs.ByRecursion.{All-weaker}
-use Rattle.std.proofs.lemmas.Bool.{and_from, and_parts, and_right, cond_both, cond-true, cond-false, cases_Bool, cases_lt, both_ways, eqb-true, eqb-false, eq-eqb, ne_eqb}
+use Rattle.std.proofs.lemmas.Bool.{cond_both, cond-true}
 use Rattle.std.proofs.lemmas.Bool.Decides.{nat_tests}
 use Rattle.lots.specs.declared.rows.LotRow.{LotRow}
 use Rattle.matching.specs.declared.wanted.Draw.{Draw}
@@ -10,7 +10,7 @@ use Rattle.matching.specs.Sums.{sum_of}
 use Rattle.matching.specs.Matching.{units_if, units_matching}
 use Rattle.matching.specs.Drawing.{units_before, gives, lots_left, insert_draw, draws_in_order}
 use Rattle.matching.specs.Drawn.{SerialsRise, Member, FromMatch, InOrder, units_drawn, Drawn}
-use Rattle.matching.proofs.Sums.{by_bool, sum_of_same, sum_of_draws, gives_most}
+use Rattle.matching.proofs.Sums.{sum_of_same, sum_of_draws, gives_most}
 
 -- by place in the list
 pub all_member : {X : Type 0} (P : X → Type 0) (xs : List X) (x : X) → AllByRecursion P xs → Member xs x → P x
@@ -62,13 +62,14 @@ sum_of_sorted M lt f (r ∷ rs) =
 
 all_insert : (P : LotRow → Type 0) (lt : LotRow → LotRow → Bool) (r : LotRow) (xs : List LotRow) → P r → AllByRecursion P xs → AllByRecursion P (insert lt r xs)
 all_insert P lt r [] p all = (p, tt)
-all_insert P lt r (x ∷ xs) p all = cond_both (lt r x) (r ∷ x ∷ xs) (x ∷ insert lt r xs) (λ ys. AllByRecursion P ys) (λ _. (p, all)) (λ _. (all.0, all_insert P lt r xs p all.1))
+all_insert P lt r (x ∷ xs) p all = let ih = all_insert P lt r xs p all.1 in grind arith
 
 all_sorted : (P : LotRow → Type 0) (M : LotRow → Bool) (lt : LotRow → LotRow → Bool) (xs : List LotRow) → AllByRecursion P xs → AllByRecursion P (sorted M lt xs)
 all_sorted P M lt [] all = tt
 all_sorted P M lt (r ∷ rs) all =
     let ih = all_sorted P M lt rs all.1 in
-    cond_both (M r) (insert lt r (sorted M lt rs)) (sorted M lt rs) (λ ys. AllByRecursion P ys) (λ _. all_insert P lt r (sorted M lt rs) all.0 ih) (λ _. ih)
+    let more = all_insert P lt r (sorted M lt rs) all.0 ih in
+    grind arith
 
 sum_of_same_all : (f g : LotRow → ℕ) (xs : List LotRow) → AllByRecursion (λ r. f r ≡ g r) xs → sum_of f xs ≡ sum_of g xs
 sum_of_same_all f g [] all = refl
@@ -95,35 +96,34 @@ sum_of_one f (x ∷ xs) r ri m =
 -- draws
 all_insert_draw : (P : Draw → Type 0) (lt : LotRow → LotRow → Bool) (d : Draw) (ds : List Draw) → P d → AllByRecursion P ds → AllByRecursion P (insert_draw lt d ds)
 all_insert_draw P lt d [] p all = (p, tt)
-all_insert_draw P lt d (e ∷ es) p all = cond_both (lt d.lot e.lot) (d ∷ e ∷ es) (e ∷ insert_draw lt d es) (λ ys. AllByRecursion P ys) (λ _. (p, all)) (λ _. (all.0, all_insert_draw P lt d es p all.1))
+all_insert_draw P lt d (e ∷ es) p all = let ih = all_insert_draw P lt d es p all.1 in grind arith
 
 pub all_draws : (P : Draw → Type 0) (lt : LotRow → LotRow → Bool) (g : LotRow → ℕ) (xs : List LotRow) → AllByRecursion (λ r. (g r ≡ 0 → ⊥) → P (record { lot = r; units = g r })) xs → AllByRecursion P (draws_in_order lt g xs)
 all_draws P lt g [] all = tt
 all_draws P lt g (r ∷ rs) all =
     let ih = all_draws P lt g rs all.1 in
-    cond_both (eqb (g r) 0) (draws_in_order lt g rs) (insert_draw lt (record { lot = r; units = g r }) (draws_in_order lt g rs)) (λ ds. AllByRecursion P ds)
-    (λ _. ih)
-    (λ e. all_insert_draw P lt (record { lot = r; units = g r }) (draws_in_order lt g rs) (all.0 (eqb-false (g r) 0 e)) ih)
+    let here = all.0 in
+    let more = all_insert_draw P lt (record { lot = r; units = g r }) (draws_in_order lt g rs) in
+    grind (arith, nat_tests)
 
 member_insert_here : (lt : LotRow → LotRow → Bool) (d : Draw) (ds : List Draw) → Member (insert_draw lt d ds) d
 member_insert_here lt d [] = inl refl
-member_insert_here lt d (e ∷ es) = cond_both (lt d.lot e.lot) (d ∷ e ∷ es) (e ∷ insert_draw lt d es) (λ ys. Member ys d) (λ _. inl refl) (λ _. inr (member_insert_here lt d es))
+member_insert_here lt d (e ∷ es) = let ih = member_insert_here lt d es in grind arith
 
 member_insert_there : (lt : LotRow → LotRow → Bool) (d x : Draw) (ds : List Draw) → Member ds x → Member (insert_draw lt d ds) x
 member_insert_there lt d x [] m = absurd m
 member_insert_there lt d x (e ∷ es) m =
-    cond_both (lt d.lot e.lot) (d ∷ e ∷ es) (e ∷ insert_draw lt d es) (λ ys. Member ys x) (λ _. inr m)
-    (λ _. ⊎_elim (λ (q : e ≡ x). inl q) (λ (q : Member es x). inr (member_insert_there lt d x es q)) m)
+    let ih = member_insert_there lt d x es in
+    grind arith
 
 member_draws : (lt : LotRow → LotRow → Bool) (g : LotRow → ℕ) (xs : List LotRow) (a : LotRow) → Member xs a → (g a ≡ 0 → ⊥) → Member (draws_in_order lt g xs) (record { lot = a; units = g a })
 member_draws lt g [] a m ne = absurd m
 member_draws lt g (r ∷ rs) a m ne =
-    cond_both (eqb (g r) 0) (draws_in_order lt g rs) (insert_draw lt (record { lot = r; units = g r }) (draws_in_order lt g rs)) (λ ds. Member ds (record { lot = a; units = g a }))
-    (λ e. ⊎_elim (λ (q : r ≡ a). absurd (ne (ap g (sym q) ∙ eqb-true (g r) 0 e))) (λ (q : Member rs a). member_draws lt g rs a q ne) m)
-    (λ e. ⊎_elim
-    (λ (q : r ≡ a). subst (λ (b : LotRow). Member (insert_draw lt (record { lot = r; units = g r }) (draws_in_order lt g rs)) (record { lot = b; units = g b })) q (member_insert_here lt (record { lot = r; units = g r }) (draws_in_order lt g rs)))
-    (λ (q : Member rs a). member_insert_there lt (record { lot = r; units = g r }) (record { lot = a; units = g a }) (draws_in_order lt g rs) (member_draws lt g rs a q ne))
-    m)
+    let d : Draw = record { lot = r; units = g r } in
+    let ih = λ (q : Member rs a). member_draws lt g rs a q ne in
+    let first = member_insert_here lt d (draws_in_order lt g rs) in
+    let later = member_insert_there lt d (record { lot = a; units = g a }) (draws_in_order lt g rs) in
+    grind (arith, nat_tests)
 
 pub left_same : (f g : LotRow → ℕ) (xs : List LotRow) → AllByRecursion (λ r. f r ≡ g r) xs → lots_left f xs ≡ lots_left g xs
 left_same f g [] all = refl

@@ -1,9 +1,8 @@
 -- One draw from the earliest matching lot x, which stands between the lots ys and zs, and then the rest.
-use Rattle.std.proofs.Common.{◌≡◌, ℕ, ◌+◌, ◌-◌, ◌<◌, ◌≤◌, min, Bool, true, false, cond, ◌&&◌, eqb, ◌⊎◌, List, [], ◌∷◌, ◌++◌, length, get_or, refl, ap, ◌∙◌, ⊎_elim, arith}
+use Rattle.std.proofs.Common.{◌≡◌, ℕ, ◌+◌, ◌-◌, ◌<◌, ◌≤◌, min, Bool, true, false, ◌&&◌, ◌⊎◌, List, [], ◌∷◌, ◌++◌, length, get_or, refl, ap, ◌∙◌, ⊎_elim, arith}
 use native.Mathlib.Nat.{sub-zero}
 use Rattle.std.specs.List.{AllByRecursion}
 use Rattle.std.proofs.ByRecursion.{All-weaker, All-from_get_or}
-use Rattle.std.proofs.lemmas.Bool.{and_from, and_right, cond_both, cond-true, cond-false, ne_eqb}
 use Rattle.std.proofs.lemmas.Bool.Decides.{nat_tests}
 use Rattle.lots.specs.declared.rows.LotRow.{LotRow}
 use Rattle.lots.specs.Rows.{no_lot, with_fewer}
@@ -12,7 +11,6 @@ use Rattle.matching.specs.Sums.{sum_of}
 use Rattle.matching.specs.Matching.{units_if}
 use Rattle.matching.specs.Places.{NoneMatch}
 use Rattle.matching.specs.Drawing.{units_before, gives, lots_left, insert_draw, draws_in_order, draws, left_over}
-use Rattle.matching.proofs.Sums.{by_bool}
 use Rattle.matching.proofs.Drawing.{sum_of_zero_all, all_draws, left_same}
 
 pub sum_of_split : (f : LotRow → ℕ) (ys : List LotRow) (x : LotRow) (zs : List LotRow) → sum_of f (ys ++ x ∷ zs) ≡ f x + sum_of f (ys ++ zs)

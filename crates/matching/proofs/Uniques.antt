@@ -2,7 +2,7 @@
 use Rattle.std.proofs.Common.{◌≡◌, ℕ, ◌-◌, ◌≤◌, min, Bool, true, false, cond, eqb, ◌⊎◌, List, [], ◌∷◌, sym, refl, ap, ◌∙◌, subst, inl, inr, ⊎_elim, arith}
 use Rattle.std.specs.List.{AllByRecursion}
 use Rattle.std.proofs.ByRecursion.{All-weaker}
-use Rattle.std.proofs.lemmas.Bool.{cond_both, cond-true, cond-false, both_ways, eq-eqb, ne_eqb}
+use Rattle.std.proofs.lemmas.Bool.{cond_both, both_ways}
 use Rattle.std.proofs.lemmas.Bool.Decides.{nat_tests}
 use Rattle.lots.specs.declared.rows.LotRow.{LotRow}
 use Rattle.matching.specs.declared.wanted.Draw.{Draw}
@@ -14,20 +14,12 @@ use Rattle.matching.proofs.Drawing.{all_member, all_from_member, insert, sorted,
 member_inserted : (lt : LotRow → LotRow → Bool) (r x : LotRow) (xs : List LotRow) → (r ≡ x) ⊎ Member xs x → Member (insert lt r xs) x
 member_inserted lt r x [] m = m
 member_inserted lt r x (y ∷ ys) m =
-    cond_both (lt r y) (r ∷ y ∷ ys) (y ∷ insert lt r ys) (λ zs. Member zs x) (λ _. m)
-    (λ _. ⊎_elim
-    (λ (q : r ≡ x). inr (member_inserted lt r x ys (inl q)))
-    (⊎_elim (λ (q : y ≡ x). inl q) (λ (q : Member ys x). inr (member_inserted lt r x ys (inr q))))
-    m)
+    let ih = member_inserted lt r x ys in
+    grind arith
 
 inserted_member : (lt : LotRow → LotRow → Bool) (r x : LotRow) (xs : List LotRow) → Member (insert lt r xs) x → (r ≡ x) ⊎ Member xs x
 inserted_member lt r x [] = λ m. m
-inserted_member lt r x (y ∷ ys) =
-    cond_both (lt r y) (r ∷ y ∷ ys) (y ∷ insert lt r ys) (λ zs. Member zs x → (r ≡ x) ⊎ Member (y ∷ ys) x) (λ _ m. m)
-    (λ _ m. ⊎_elim
-    (λ (q : y ≡ x). inr (inl q))
-    (λ (q : Member (insert lt r ys) x). ⊎_elim (λ (p : r ≡ x). inl p) (λ (p : Member ys x). inr (inr p)) (inserted_member lt r x ys q))
-    m)
+inserted_member lt r x (y ∷ ys) = let ih = inserted_member lt r x ys in grind arith
 
 member_sorted : (M : LotRow → Bool) (lt : LotRow → LotRow → Bool) (x : LotRow) (xs : List LotRow) → Member xs x → M x ≡ true → Member (sorted M lt xs) x
 member_sorted M lt x [] m f = absurd m
