@@ -1,11 +1,10 @@
 -- A purchase by the place of its lot is the purchase that the table defines.
-use Rattle.std.proofs.Common.{◌≡◌, ℕ, suc, ◌+◌, ◌<◌, ◌≤◌, Bool, true, false, cond, ◌||◌, ltb, leb, List, [], ◌∷◌, ◌++◌, length, get_or, take, drop, set, Some, None, Option, Result, sym, refl, ap, ◌∙◌, subst, ⊎_elim, arith}
+use Rattle.std.proofs.Common.{◌≡◌, ℕ, suc, ◌+◌, ◌<◌, ◌≤◌, true, false, cond, ◌||◌, leb, List, [], ◌∷◌, ◌++◌, length, get_or, take, drop, set, Some, None, Option, Result, sym, refl, ap, ◌∙◌, subst, ⊎_elim, arith}
 use Rattle.std.specs.List.{AllByRecursion}
 use Rattle.std.proofs.ByRecursion.{All-from_get_or, All-weaker}
 use Rattle.std.proofs.lemmas.Bool.{cond-true, or_left, le-leb, cases_lt}
 use Rattle.std.proofs.lemmas.Bool.Decides.{nat_tests}
 use Rattle.refusal.specs.declared.Refusal.{Refusal}
-use Rattle.refusal.specs.declared.Refusal.TheVariants.{LotTooLarge, TooManyLots}
 use Rattle.lots.specs.declared.rows.Key.{Key}
 use Rattle.lots.specs.declared.rows.LotRow.{LotRow}
 use Rattle.lots.specs.Rows.{most, same_key, no_lot, with_more}
@@ -65,16 +64,7 @@ module _ (k : Key) (x : LotRow) (own : of_key k x ≡ true) (zs : List LotRow) w
       let rest = units_none k (ys ++ zs) all in
       grind arith
 
--- a purchase by the words that it looks at
-abbrev by_words : ℕ → ℕ → Bool → List LotRow → ℕ → Table → Result ℕ Refusal × Table
-by_words n held there after serial t =
-    answered (cond (ltb most (held + n)) (Some LotTooLarge) (cond there None (cond (leb 256 (length t.lots)) (Some TooManyLots) None))) serial (record { lots = after; next = cond there t.next (t.next + 1) }) t
-
 module _ (k : Key) (n : ℕ) (t : Table) where
-  words : (held : ℕ) (there : Bool) (after : List LotRow) (serial : ℕ) → units_of_key k t.lots ≡ held → is_open k t.lots ≡ there → add_units k n t.next t.lots ≡ after → serial_for k t.next t.lots ≡ serial
-      → purchased k n t ≡ by_words n held there after serial t
-  words held there after serial e f g h = λ i. by_words n (e i) (f i) (g i) (h i) t
-
   grown_is_purchased : WellKept t → (i : ℕ) → OpenAt k t.lots (Some i) → grown_at i n t ≡ purchased k n t
   grown_is_purchased w i at =
       let lots = t.lots in
@@ -85,11 +75,10 @@ module _ (k : Key) (n : ℕ) (t : Table) where
       let key = key_same x.key k at.1 in
       let others = pairs_others (λ r s. r.key ≡ s.key → ⊥) (Other k) ys x zs (λ r ne. other_key k r (λ e. ne (e ∙ sym key))) (λ r ne. other_key k r (λ e. ne (key ∙ sym e))) (subst (λ (rs : List LotRow). KeysDiffer rs) split w.keys_differ) in
       let after = set lots i (with_more x n) in
-      let E = words x.units true after x.serial
-      (ap (units_of_key k) split ∙ units_there k x at.1 zs ys others)
-      (ap (is_open k) split ∙ open_there k x at.1 zs ys)
-      (ap (add_units k n t.next) split ∙ add_there k x at.1 zs n t.next ys others ∙ sym (set_at lots i (with_more x n) at.0))
-      (ap (serial_for k t.next) split ∙ serial_there k x at.1 zs t.next ys others) in
+      let held = ap (units_of_key k) split ∙ units_there k x at.1 zs ys others in
+      let there = ap (is_open k) split ∙ open_there k x at.1 zs ys in
+      let added = ap (add_units k n t.next) split ∙ add_there k x at.1 zs n t.next ys others ∙ sym (set_at lots i (with_more x n) at.0) in
+      let serial = ap (serial_for k t.next) split ∙ serial_there k x at.1 zs t.next ys others in
       grind arith
 
   module _ (small : n ≤ most) (none : OpenAt k t.lots None) where
@@ -101,7 +90,10 @@ module _ (k : Key) (n : ℕ) (t : Table) where
 
     opened_is_purchased : t.next < last_serial → opened k n t ≡ purchased k n t
     opened_is_purchased low =
-        let E = words 0 false after t.next (units_none k t.lots others) (not_open k t.lots others) (add_new k n t.next t.lots others) (serial_new k t.next t.lots others) in
+        let held = units_none k t.lots others in
+        let shut = not_open k t.lots others in
+        let added = add_new k n t.next t.lots others in
+        let serial = serial_new k t.next t.lots others in
         grind (arith, nat_tests)
 
     opened_is_late : last_serial ≤ t.next → opened k n t ≡ purchased_late k n t
