@@ -1,8 +1,8 @@
 -- The earliest matching lot: what the closed form names is what the relation says, and there is one.
-use Rattle.std.proofs.Common.{◌≡◌, ℕ, zero, suc, ◌<◌, ◌≤◌, Bool, true, false, not, List, [], ◌∷◌, length, get_or, Some, None, Option, sym, refl, ap, ◌∙◌, inl, inr, ⊎_elim, arith}
+use Rattle.std.proofs.Common.{◌≡◌, ℕ, zero, suc, ◌<◌, ◌≤◌, Bool, true, false, not, List, [], ◌∷◌, length, get_or, Some, None, Option, refl, ap, ◌∙◌, inl, inr, arith}
 use Rattle.std.specs.List.{AllByRecursion}
 use Rattle.std.proofs.ByRecursion.{All-from_get_or}
-use Rattle.std.proofs.lemmas.Bool.{cond_both, cases_eq}
+use Rattle.std.proofs.lemmas.Bool.{cond_both}
 use Rattle.lots.specs.declared.rows.LotRow.{LotRow}
 use Rattle.lots.specs.Rows.{no_lot}
 use Rattle.lots.specs.Orders.{Order, Keeps}
@@ -20,39 +20,27 @@ Best M lt xs (Some b) = Earliest M lt xs b
 member_same : (xs : List LotRow) → SerialsRise xs → (a b : LotRow) → Member xs a → Member xs b → a.serial ≡ b.serial → a ≡ b
 member_same [] ri a b m n e = absurd m
 member_same (x ∷ xs) ri a b m n e =
-    ⊎_elim
-    (λ (p : x ≡ a). ⊎_elim
-    (λ (q : x ≡ b). sym p ∙ q)
-    (λ (q : Member xs b). let l = all_member (λ s. x.serial < s.serial) xs b ri.0 q in grind arith)
-    n)
-    (λ (p : Member xs a). ⊎_elim
-    (λ (q : x ≡ b). let l = all_member (λ s. x.serial < s.serial) xs a ri.0 p in grind arith)
-    (λ (q : Member xs b). member_same xs ri.1 a b p q e)
-    n)
-    m
+    let below_a = all_member (λ s. x.serial < s.serial) xs a ri.0 in
+    let below_b = all_member (λ s. x.serial < s.serial) xs b ri.0 in
+    let ih = member_same xs ri.1 a b in
+    grind arith
 
 module _ (M : LotRow → Bool) (lt : LotRow → LotRow → Bool)
     (irr : (a : LotRow) → lt a a ≡ false) (trans : (a b c : LotRow) → lt a b ≡ true → lt b c ≡ true → lt a c ≡ true)
     (one : (a b : LotRow) → (a.serial ≡ b.serial → ⊥) → lt a b ≡ not (lt b a)) where
   best_matching : (r : LotRow) (rs : List LotRow) → M r ≡ true → (e : Option LotRow) → Best M lt rs e → Best M lt (r ∷ rs) (earlier lt r e)
-  best_matching r rs m None all = record { there = inl refl; fits = m; least = λ a there fits. ⊎_elim (λ (q : r ≡ a). let own = irr r in cc) (λ (q : Member rs a). let other = all_member (λ s. M s ≡ false) rs a all q in cc) there }
+  best_matching r rs m None all = record { there = inl refl; fits = m; least = λ a there fits. let own = irr r in let other = all_member (λ s. M s ≡ false) rs a all in grind arith }
   best_matching r rs m (Some b) best =
       cond_both (lt r b) (Some r) (Some b) (λ e. Best M lt (r ∷ rs) e)
       (λ before. record {
         there = inl refl;
         fits = m;
-        least = λ a there fits. ⊎_elim
-            (λ (q : r ≡ a). let own = irr r in cc)
-            (λ (q : Member rs a). let least = best.least a q fits in let t = trans a r b in grind arith)
-            there;
+        least = λ a there fits. let own = irr r in let least = best.least a in let t = trans a r b in grind arith;
       })
       (λ after. record {
         there = inr best.there;
         fits = best.fits;
-        least = λ a there fits. ⊎_elim
-            (λ (q : r ≡ a). cc)
-            (λ (q : Member rs a). best.least a q fits)
-            there;
+        least = λ a there fits. let least = best.least a in grind arith;
       })
 
   best_other : (r : LotRow) (rs : List LotRow) → M r ≡ false → (e : Option LotRow) → Best M lt rs e → Best M lt (r ∷ rs) e
@@ -60,10 +48,7 @@ module _ (M : LotRow → Bool) (lt : LotRow → LotRow → Bool)
   best_other r rs m (Some b) best = record {
     there = inr best.there;
     fits = best.fits;
-    least = λ a there fits. ⊎_elim
-        (λ (q : r ≡ a). cc)
-        (λ (q : Member rs a). best.least a q fits)
-        there;
+    least = λ a there fits. let least = best.least a in grind arith;
   }
 
   best_is : (xs : List LotRow) → Best M lt xs (earliest M lt xs)
@@ -75,10 +60,11 @@ module _ (M : LotRow → Bool) (lt : LotRow → LotRow → Bool)
 
   earliest_same : (xs : List LotRow) → SerialsRise xs → (a b : LotRow) → Earliest M lt xs a → Earliest M lt xs b → a ≡ b
   earliest_same xs ri a b p q =
-      ⊎_elim
-      (λ (e : a.serial ≡ b.serial). member_same xs ri a b p.there q.there e)
-      (λ (ne : a.serial ≡ b.serial → ⊥). let lower = q.least a p.there p.fits in let upper = p.least b q.there q.fits in let o = one a b ne in grind arith)
-      (cases_eq a.serial b.serial)
+      let same = member_same xs ri a b p.there q.there in
+      let lower = q.least a p.there p.fits in
+      let upper = p.least b q.there q.fits in
+      let o = one a b in
+      grind arith
 
   -- the policy's answer is its answer for the earliest lot
   unsettled_at : (f : LotRow → Bool) (xs : List LotRow) → (e : Option LotRow) → Best M lt xs e → settled_with f e ≡ false → (r : LotRow) × Earliest M lt xs r × (f r ≡ false)

@@ -1,6 +1,5 @@
 -- One draw from the earliest matching lot x, which stands between the lots ys and zs, and then the rest.
 use Rattle.std.proofs.Common.{◌≡◌, ℕ, ◌+◌, ◌-◌, ◌<◌, ◌≤◌, min, Bool, true, false, ◌&&◌, ◌⊎◌, List, [], ◌∷◌, ◌++◌, length, get_or, refl, ap, ◌∙◌, ⊎_elim, arith}
-use native.Mathlib.Nat.{sub-zero}
 use Rattle.std.specs.List.{AllByRecursion}
 use Rattle.std.proofs.ByRecursion.{All-weaker, All-from_get_or}
 use Rattle.std.proofs.lemmas.Bool.Decides.{nat_tests}
@@ -39,23 +38,16 @@ draws_first lt f [] x zs some all =
     (all_draws (λ e. lt x e.lot ≡ true) lt f zs (All-weaker (λ r. (f r ≡ 0 → ⊥) → (lt r x ≡ false) × (lt x r ≡ true)) (λ r. (f r ≡ 0 → ⊥) → lt x r ≡ true) (λ r h ne. (h ne).1) zs all)) in
     grind (arith, nat_tests)
 draws_first lt f (y ∷ ys) x zs some all =
-    let dx : Draw = record { lot = x; units = f x } in
-    let dy : Draw = record { lot = y; units = f y } in
-    let D = draws_in_order lt f (ys ++ zs) in
     let ih = draws_first lt f ys x zs some all.1 in
     let after = all.0 in
     grind (arith, nat_tests)
 
 -- what is left
-fewer_none : (r : LotRow) → with_fewer r 0 ≡ r
-fewer_none r = ap (λ (n : ℕ). record { key = r.key; units = n; serial = r.serial }) (sub-zero r.units)
-
 left_none : (f : LotRow → ℕ) (xs : List LotRow) → AllByRecursion (λ r. f r ≡ 0) xs → AllByRecursion (λ r. 1 ≤ r.units) xs → lots_left f xs ≡ xs
 left_none f [] none some = refl
 left_none f (r ∷ rs) none some =
     let z = none.0 in
     let l = some.0 in
-    let same = fewer_none r in
     let ih = left_none f rs none.1 some.1 in
     grind (arith, nat_tests)
 
@@ -71,7 +63,6 @@ left_part f [] x zs h none some =
 left_part f (y ∷ ys) x zs h none some =
     let z = none.0 in
     let l = some.0 in
-    let same = fewer_none y in
     let ih = left_part f ys x zs h none.1 some.1 in
     grind (arith, nat_tests)
 
@@ -125,9 +116,9 @@ module _ (M : LotRow → Bool) (lt : LotRow → LotRow → Bool) (ys : List LotR
   draws_whole n some h =
       let f = gives M lt n (ys ++ x ∷ zs) in
       let g : f x ≡ x.units = let e = gives_x n in omega arith in
-      draws_first lt f ys x zs (λ z. omega arith) (ordered n)
-      ∙ ap (λ (m : ℕ). record { lot = x; units = m } ∷ draws_in_order lt f (ys ++ zs)) g
-      ∙ ap (λ (ds : List Draw). record { lot = x; units = x.units } ∷ ds) (draws_same lt f (gives M lt (n - x.units) (ys ++ zs)) (ys ++ zs) (gives_others n h))
+      let first = draws_first lt f ys x zs (λ z. omega arith) (ordered n) in
+      let rest = draws_same lt f (gives M lt (n - x.units) (ys ++ zs)) (ys ++ zs) (gives_others n h) in
+      cc
 
   pub left_whole : (n : ℕ) → x.units ≤ n → left_over M lt n (ys ++ x ∷ zs) ≡ left_over M lt (n - x.units) (ys ++ zs)
   left_whole n h =
@@ -139,9 +130,9 @@ module _ (M : LotRow → Bool) (lt : LotRow → LotRow → Bool) (ys : List LotR
   draws_part n some h =
       let f = gives M lt n (ys ++ x ∷ zs) in
       let g : f x ≡ n = let e = gives_x n in omega arith in
-      draws_first lt f ys x zs (λ z. omega arith) (ordered n)
-      ∙ ap (λ (m : ℕ). record { lot = x; units = m } ∷ draws_in_order lt f (ys ++ zs)) g
-      ∙ ap (λ (ds : List Draw). record { lot = x; units = n } ∷ ds) (draws_none lt f (ys ++ zs) (gives_nothing n (omega arith)))
+      let first = draws_first lt f ys x zs (λ z. omega arith) (ordered n) in
+      let rest = draws_none lt f (ys ++ zs) (gives_nothing n (omega arith)) in
+      cc
 
   pub left_in_part : (n : ℕ) → n < x.units → AllByRecursion (λ r. 1 ≤ r.units) (ys ++ zs) → left_over M lt n (ys ++ x ∷ zs) ≡ ys ++ with_fewer x n ∷ zs
   left_in_part n h some =

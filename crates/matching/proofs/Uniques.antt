@@ -1,8 +1,7 @@
 -- `Drawn` leaves one answer.
-use Rattle.std.proofs.Common.{◌≡◌, ℕ, ◌-◌, ◌≤◌, min, Bool, true, false, cond, eqb, ◌⊎◌, List, [], ◌∷◌, sym, refl, ap, ◌∙◌, subst, inl, inr, ⊎_elim, arith}
+use Rattle.std.proofs.Common.{◌≡◌, ℕ, ◌-◌, ◌≤◌, min, Bool, true, false, cond, eqb, ◌⊎◌, List, [], ◌∷◌, sym, refl, ap, ◌∙◌, subst, inl, inr, arith}
 use Rattle.std.specs.List.{AllByRecursion}
 use Rattle.std.proofs.ByRecursion.{All-weaker}
-use Rattle.std.proofs.lemmas.Bool.{cond_both, both_ways}
 use Rattle.std.proofs.lemmas.Bool.Decides.{nat_tests}
 use Rattle.lots.specs.declared.rows.LotRow.{LotRow}
 use Rattle.matching.specs.declared.wanted.Draw.{Draw}
@@ -24,19 +23,16 @@ inserted_member lt r x (y ∷ ys) = let ih = inserted_member lt r x ys in grind 
 member_sorted : (M : LotRow → Bool) (lt : LotRow → LotRow → Bool) (x : LotRow) (xs : List LotRow) → Member xs x → M x ≡ true → Member (sorted M lt xs) x
 member_sorted M lt x [] m f = absurd m
 member_sorted M lt x (r ∷ rs) m f =
-    cond_both (M r) (insert lt r (sorted M lt rs)) (sorted M lt rs) (λ zs. Member zs x)
-    (λ _. member_inserted lt r x (sorted M lt rs) (⊎_elim (λ (q : r ≡ x). inl q) (λ (q : Member rs x). inr (member_sorted M lt x rs q f)) m))
-    (λ e. ⊎_elim (λ (q : r ≡ x). cc) (λ (q : Member rs x). member_sorted M lt x rs q f) m)
+    let ih = member_sorted M lt x rs in
+    let more = member_inserted lt r x (sorted M lt rs) in
+    grind arith
 
 sorted_member : (M : LotRow → Bool) (lt : LotRow → LotRow → Bool) (x : LotRow) (xs : List LotRow) → Member (sorted M lt xs) x → Member xs x × (M x ≡ true)
 sorted_member M lt x [] = λ m. absurd m
-sorted_member M lt x (r ∷ rs) =
-    cond_both (M r) (insert lt r (sorted M lt rs)) (sorted M lt rs) (λ zs. Member zs x → Member (r ∷ rs) x × (M x ≡ true))
-    (λ e m. ⊎_elim
-    (λ (q : r ≡ x). (inl q, cc))
-    (λ (q : Member (sorted M lt rs) x). let h = sorted_member M lt x rs q in (inr h.0, h.1))
-    (inserted_member lt r x (sorted M lt rs) m))
-    (λ e m. let h = sorted_member M lt x rs m in (inr h.0, h.1))
+sorted_member M lt x (r ∷ rs) = λ m.
+    let ih = sorted_member M lt x rs in
+    let less = inserted_member lt r x (sorted M lt rs) in
+    (grind arith, grind arith)
 
 -- draws from lots in order, each to its last unit
 abbrev in_turn : ℕ → List LotRow → List Draw
@@ -66,21 +62,16 @@ module _ (lt : LotRow → LotRow → Bool) (irr : (a : LotRow) → lt a a ≡ fa
   first_lot : (z : LotRow) (zs : List LotRow) (d : Draw) (ds : List Draw) → Ordered lt (z ∷ zs) → AllByRecursion (λ e. lt d.lot e.lot ≡ true) ds → From (z ∷ zs) d
       → ((a : LotRow) → Member (z ∷ zs) a → lt a d.lot ≡ true → Member (d ∷ ds) (record { lot = a; units = a.units })) → z ≡ d.lot
   first_lot z zs d ds o later from emptied =
-      ⊎_elim
-      (λ (q : z ≡ d.lot). q)
-      (λ (q : Member zs d.lot).
-      let before = all_member (λ s. lt z s ≡ true) zs d.lot o.0 q in
-      ⊎_elim
-      (λ (p : d ≡ record { lot = z; units = z.units }). cc)
-      (λ (p : Member ds (record { lot = z; units = z.units })).
-      let back = all_member (λ e. lt d.lot e.lot ≡ true) ds (record { lot = z; units = z.units }) later p in
+      let before = all_member (λ s. lt z s ≡ true) zs d.lot o.0 in
+      let back = all_member (λ e. lt d.lot e.lot ≡ true) ds (record { lot = z; units = z.units }) later in
+      let first = emptied z (inl refl) in
       let own = irr z in
-      let t = trans z d.lot z before back in cc)
-      (emptied z (inl refl) before))
-      from.there
+      let t = trans z d.lot z in
+      let there = from.there in
+      grind arith
 
   same_draw : (d : Draw) (z : LotRow) (n : ℕ) → z ≡ d.lot → d.units ≡ n → d ≡ record { lot = z; units = n }
-  same_draw d z n e f = λ i. record { lot = sym e i; units = f i }
+  same_draw d z n e f = grind arith
 
   fits_in_turn : (zs : List LotRow) (u : ℕ) (ds : List Draw) → Ordered lt zs → Fits lt u zs ds → ds ≡ in_turn u zs
   fits_in_turn [] u [] o f = refl
@@ -102,16 +93,20 @@ module _ (lt : LotRow → LotRow → Bool) (irr : (a : LotRow) → lt a a ≡ fa
       let lot = first_lot z zs d (e ∷ es) o later from f.emptied.0 in
       let after = subst (λ (r : LotRow). AllByRecursion (λ x. lt r x.lot ≡ true) (e ∷ es)) (sym lot) later in
       let whole : d ≡ record { lot = z; units = z.units } =
-      ⊎_elim (λ (p : d ≡ record { lot = z; units = z.units }). p)
-      (λ (p : Member (e ∷ es) (record { lot = z; units = z.units })). absurd (both_ways (lt z z) (irr z) (all_member (λ x. lt z x.lot ≡ true) (e ∷ es) (record { lot = z; units = z.units }) after p)))
-      (f.emptied.1.0 z (inl refl) after.0) in
+      let first = f.emptied.1.0 z (inl refl) after.0 in
+      let back = all_member (λ x. lt z x.lot ≡ true) (e ∷ es) (record { lot = z; units = z.units }) after in
+      let own = irr z in
+      grind arith in
       let n : d.units ≡ z.units = ap (λ (x : Draw). x.units) whole in
       let all = f.exactly in
       let some = from.some in
       let narrowed : AllByRecursion (From zs) (e ∷ es) = all_from_member (From zs) (e ∷ es) (λ x m.
       let from_x = all_member (From (z ∷ zs)) (e ∷ es) x f.each.1 m in
       record {
-        there = ⊎_elim (λ (p : z ≡ x.lot). absurd (never z x.lot (all_member (λ y. lt z y.lot ≡ true) (e ∷ es) x after m) p)) (λ (p : Member zs x.lot). p) from_x.there;
+        there =
+            let there = from_x.there in
+            let apart = never z x.lot (all_member (λ y. lt z y.lot ≡ true) (e ∷ es) x after m) in
+            grind arith;
         some = from_x.some;
         most = from_x.most;
       }) in
@@ -120,10 +115,10 @@ module _ (lt : LotRow → LotRow → Bool) (irr : (a : LotRow) → lt a a ≡ fa
         each = narrowed;
         order = f.order.1;
         emptied = All-weaker (λ x. (a : LotRow) → Member (z ∷ zs) a → lt a x.lot ≡ true → Member (d ∷ e ∷ es) (record { lot = a; units = a.units })) (λ x. (a : LotRow) → Member zs a → lt a x.lot ≡ true → Member (e ∷ es) (record { lot = a; units = a.units }))
-            (λ x g a there before. ⊎_elim
-            (λ (p : d ≡ record { lot = a; units = a.units }). absurd (never z a (all_member (λ s. lt z s ≡ true) zs a o.0 there) (lot ∙ ap (λ (y : Draw). y.lot) p)))
-            (λ (p : Member (e ∷ es) (record { lot = a; units = a.units })). p)
-            (g a (inr there) before))
+            (λ x g a there before.
+            let drawn = g a (inr there) before in
+            let apart = never z a (all_member (λ s. lt z s ≡ true) zs a o.0 there) in
+            grind arith)
             (e ∷ es) f.emptied.1;
       } in
       let same = same_draw d z (min z.units u) lot (omega arith) in
