@@ -55,9 +55,6 @@ record Fits (lt : LotRow → LotRow → Bool) (u : ℕ) (zs : List LotRow) (ds :
   emptied : AllByRecursion (λ d. (a : LotRow) → Member zs a → lt a d.lot ≡ true → Member ds (record { lot = a; units = a.units })) ds
 
 module _ (lt : LotRow → LotRow → Bool) (irr : (a : LotRow) → lt a a ≡ false) (trans : (a b c : LotRow) → lt a b ≡ true → lt b c ≡ true → lt a c ≡ true) where
-  never : (a b : LotRow) → lt a b ≡ true → a ≡ b → ⊥
-  never a b l e = let own = irr a in cc
-
   -- a lot drawn first is the first of the lots
   first_lot : (z : LotRow) (zs : List LotRow) (d : Draw) (ds : List Draw) → Ordered lt (z ∷ zs) → AllByRecursion (λ e. lt d.lot e.lot ≡ true) ds → From (z ∷ zs) d
       → ((a : LotRow) → Member (z ∷ zs) a → lt a d.lot ≡ true → Member (d ∷ ds) (record { lot = a; units = a.units })) → z ≡ d.lot
@@ -70,9 +67,6 @@ module _ (lt : LotRow → LotRow → Bool) (irr : (a : LotRow) → lt a a ≡ fa
       let there = from.there in
       grind arith
 
-  same_draw : (d : Draw) (z : LotRow) (n : ℕ) → z ≡ d.lot → d.units ≡ n → d ≡ record { lot = z; units = n }
-  same_draw d z n e f = grind arith
-
   fits_in_turn : (zs : List LotRow) (u : ℕ) (ds : List Draw) → Ordered lt zs → Fits lt u zs ds → ds ≡ in_turn u zs
   fits_in_turn [] u [] o f = refl
   fits_in_turn [] u (d ∷ ds) o f = absurd f.each.0.there
@@ -81,11 +75,9 @@ module _ (lt : LotRow → LotRow → Bool) (irr : (a : LotRow) → lt a a ≡ fa
       let from = f.each.0 in
       let lot = first_lot z zs d [] o tt from f.emptied.0 in
       let some = from.some in
-      let most : d.units ≤ z.units = subst (λ (r : LotRow). d.units ≤ r.units) (sym lot) from.most in
+      let most = from.most in
       let all = f.exactly in
-      let n : d.units ≡ min z.units u = omega arith in
-      let same = same_draw d z (min z.units u) lot n in
-      let rest = in_turn_none (u - z.units) zs (omega arith) in
+      let rest = in_turn_none (u - z.units) zs in
       grind (arith, nat_tests)
   fits_in_turn (z ∷ zs) u (d ∷ e ∷ es) o f =
       let from = f.each.0 in
@@ -97,7 +89,7 @@ module _ (lt : LotRow → LotRow → Bool) (irr : (a : LotRow) → lt a a ≡ fa
       let back = all_member (λ x. lt z x.lot ≡ true) (e ∷ es) (record { lot = z; units = z.units }) after in
       let own = irr z in
       grind arith in
-      let n : d.units ≡ z.units = ap (λ (x : Draw). x.units) whole in
+      let n : d.units ≡ z.units = cc in
       let all = f.exactly in
       let some = from.some in
       let narrowed : AllByRecursion (From zs) (e ∷ es) = all_from_member (From zs) (e ∷ es) (λ x m.
@@ -105,7 +97,8 @@ module _ (lt : LotRow → LotRow → Bool) (irr : (a : LotRow) → lt a a ≡ fa
       record {
         there =
             let there = from_x.there in
-            let apart = never z x.lot (all_member (λ y. lt z y.lot ≡ true) (e ∷ es) x after m) in
+            let before = all_member (λ y. lt z y.lot ≡ true) (e ∷ es) x after m in
+            let own = irr z in
             grind arith;
         some = from_x.some;
         most = from_x.most;
@@ -117,11 +110,11 @@ module _ (lt : LotRow → LotRow → Bool) (irr : (a : LotRow) → lt a a ≡ fa
         emptied = All-weaker (λ x. (a : LotRow) → Member (z ∷ zs) a → lt a x.lot ≡ true → Member (d ∷ e ∷ es) (record { lot = a; units = a.units })) (λ x. (a : LotRow) → Member zs a → lt a x.lot ≡ true → Member (e ∷ es) (record { lot = a; units = a.units }))
             (λ x g a there before.
             let drawn = g a (inr there) before in
-            let apart = never z a (all_member (λ s. lt z s ≡ true) zs a o.0 there) in
+            let first = all_member (λ s. lt z s ≡ true) zs a o.0 there in
+            let own = irr z in
             grind arith)
             (e ∷ es) f.emptied.1;
       } in
-      let same = same_draw d z (min z.units u) lot (omega arith) in
       let later = fits_in_turn zs (u - z.units) (e ∷ es) o.1 rest in
       grind (arith, nat_tests)
 
