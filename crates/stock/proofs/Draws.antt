@@ -1,10 +1,10 @@
 -- One draw after another gives what the closed form says.
-use Rattle.std.proofs.Common.{◌≡◌, ℕ, suc, ◌+◌, ◌-◌, ◌<◌, ◌≤◌, Bool, true, ◌&&◌, leb, ◌⊎◌, List, [], ◌∷◌, ◌++◌, length, get_or, take, drop, set, sym, refl, ap, ◌∙◌, subst, inl, ⊎_elim, append_assoc, arith}
+use Rattle.std.proofs.Common.{◌≡◌, ℕ, suc, ◌+◌, ◌-◌, ◌<◌, ◌≤◌, Bool, true, leb, ◌⊎◌, List, [], ◌∷◌, ◌++◌, length, get_or, take, drop, set, sym, ap, ◌∙◌, subst, inl, append_assoc, arith}
 use Rattle.std.specs.List.{remove, list_all, AllByRecursion}
 use Rattle.std.proofs.lemmas.List.{append-nil, length_push, length-set}
 use Rattle.std.proofs.lemmas.List.Folds.{list_all-append}
 use Rattle.std.proofs.ByRecursion.{All-get_or, All-set}
-use Rattle.std.proofs.lemmas.Bool.{and_from, cases_lt, cond_both, leb-true, leb-false}
+use Rattle.std.proofs.lemmas.Bool.{cond_both, leb-true, leb-false}
 use Rattle.std.proofs.lemmas.Bool.Decides.{nat_tests}
 use Rattle.lots.specs.declared.rows.LotRow.{LotRow}
 use Rattle.lots.specs.Rows.{in_range, no_lot, with_fewer}
@@ -50,14 +50,16 @@ module _ (o : Order) (keeps : Keeps o) (M : LotRow → Bool) (u : ℕ) (old now 
     drawn_in_range n h =
         let d : Draw = record { lot = x; units = n } in
         let r = All-get_or (λ r. in_range r ≡ true) now.lots i no_lot e.within kept.ranges in
-        let fits : draw_in_range d ≡ true = grind (arith, nat_tests) in
-        list_all-append draw_in_range ds (d ∷ []) ∙ and_from (list_all draw_in_range ds) (draw_in_range d && true) w.in_range (and_from (draw_in_range d) true fits refl)
+        let so_far = w.in_range in
+        let both = list_all-append draw_in_range ds (d ∷ []) in
+        grind (arith, nat_tests)
 
     few_now : length old.lots ≤ 256
     few_now =
         let top = kept.at_most_256 in
         let all = w.counted l in
-        ⊎_elim (λ (some : 0 < length ds). w.few some) (λ (none : length ds ≤ 0). omega arith) (cases_lt 0 (length ds))
+        let few = w.few in
+        grind arith
 
     split : now.lots ≡ take i now.lots ++ x ∷ drop (suc i) now.lots
     split = split_at now.lots i no_lot e.within
@@ -70,12 +72,13 @@ module _ (o : Order) (keeps : Keeps o) (M : LotRow → Bool) (u : ℕ) (old now 
     whole h =
         let d : Draw = record { lot = x; units = x.units } in
         let rest = remove now.lots i in
-        let step : draws M lt left now.lots ≡ d ∷ draws M lt (left - x.units) rest = ap (draws M lt left) split ∙ draws_whole M lt (take i now.lots) x (drop (suc i) now.lots) leads left units_x h in
+        let step = draws_whole M lt (take i now.lots) x (drop (suc i) now.lots) leads left units_x h in
+        let over = left_whole M lt (take i now.lots) x (drop (suc i) now.lots) leads left h in
         let n = ap length split ∙ length_split (take i now.lots) x (drop (suc i) now.lots) in
         let all = w.counted l in
         record {
-          drawn = append_assoc ds (d ∷ []) (draws M lt (left - x.units) rest) ∙ ap (λ (es : List Draw). ds ++ es) (sym step) ∙ w.drawn;
-          after = sym (ap (left_over M lt left) split ∙ left_whole M lt (take i now.lots) x (drop (suc i) now.lots) leads left h) ∙ w.after;
+          drawn = append_assoc ds (d ∷ []) (draws M lt (left - x.units) rest) ∙ ap (λ (es : List Draw). ds ++ es) (sym (ap (draws M lt left) split ∙ step)) ∙ w.drawn;
+          after = sym (ap (left_over M lt left) split ∙ over) ∙ w.after;
           next = w.next;
           in_range = drawn_in_range x.units (omega arith);
           counted = λ _. omega (arith, length_push ds d);

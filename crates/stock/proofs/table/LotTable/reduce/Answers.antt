@@ -1,5 +1,4 @@
 use Rattle.std.proofs.Common.{◌≡◌, ◌≤◌, true, false, refl, ap, rules}
-use Rattle.std.proofs.lemmas.Bool.{both_ways}
 use Rattle.matching.specs.Matching.{matches, units_matching}
 use Rattle.matching.specs.Drawing.{settled}
 use Rattle.matching.proofs.Drawing.{closed_form_is_drawn}
@@ -41,5 +40,5 @@ returns-clause-unsettled_is_23 g c =
     let yes : settled o M asked.units lots ≡ true = search rules in
     record {
       only_where = λ e. search rules;
-      wherever = λ unsettled. absurd (both_ways (settled o M asked.units lots) (unsettled_to o (g.met.P.Policy.keeps asked.policy.now) M asked.units lots c.lots.ensures.kept.serials_rise unsettled) yes);
+      wherever = λ unsettled. let no = unsettled_to o (g.met.P.Policy.keeps asked.policy.now) M asked.units lots c.lots.ensures.kept.serials_rise unsettled in cc;
     }
