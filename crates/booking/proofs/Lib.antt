@@ -1,4 +1,3 @@
-pub mod Worked
 pub mod Passing
 pub mod Blanks
 pub mod Drafts
