@@ -40,6 +40,7 @@ pub fn room_for(len: usize, rows: usize) -> Result<(), Refusal>
 }
 
 // Writes the rows behind those written before, and then the header; refused, not a byte.
+#[tactic(auto, using(crate::proofs::Parts::appended), unfolding(crate::specs::Layout::record_after))]
 pub fn append_rows(
     book: &mut [u8],
     written: u32,
@@ -59,6 +60,7 @@ pub fn append_rows(
 }
 
 // Writes the header alone; refused, not a byte.
+#[tactic(auto, using(crate::proofs::Parts::headed))]
 pub fn write_header(book: &mut [u8], written: u32, header: Header) -> Result<(), Refusal>
     ensures answer { result ≡ room_for (length book.old) written }
     ensures bytes { book.new ≡ if_ok result (header_after written header book.old) book.old }

@@ -36,6 +36,7 @@ fn write_row(out: &mut [u8], row: &Row)
     put(out, 32, [lot.currency, row.flag.number(), 0, 0]);
 }
 
+#[tactic(auto, using(crate::proofs::Written::rows_more))]
 fn write_rows(out: &mut [u8], rows: &[Row])
     requires { row_length * length rows.now ≤ length out.old }
     ensures bytes { out.new ≡ rows_bytes rows.now ++ drop (row_length * length rows.now) out.old }
