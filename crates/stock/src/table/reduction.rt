@@ -43,6 +43,7 @@ impl LotTable {
     }
 
     // Whether the policy settles, asked with the earliest of the matching lots.
+    #[tactic(auto, using(matching::proofs::Earliest::settled_none, matching::proofs::Earliest::settled_at))]
     fn is_settled<P: Policy>(&self, asked: &Reduction<P>) -> bool
         ensures { result ≡ settled (P.Policy.order asked.now.policy.now) (matches asked.now.wanted) asked.now.units self.now.lots }
     {
