@@ -23,6 +23,7 @@ pub type Draws = Bounded<Draw, MOST_LOTS>;
 impl LotTable {
     // Draws units from the matching lots in the policy's order, each to its last unit before the next; or refuses and changes nothing.
     // Each lot that it draws from is emptied but the last, so that draws and open lots together grow by at most one.
+    #[tactic(auto, using(matching::proofs::Earliest::unsettled_from, matching::proofs::Earliest::unsettled_to))]
     pub fn reduce<P: Policy>(&mut self, asked: &Reduction<P>) -> Result<Draws, Refusal>
         ensures defined { (result, self.new) ≡ reduced (P.Policy.order asked.now.policy.now) asked.now.wanted asked.now.units self.old }
         ensures draws_earliest_first { DrawsEarliestFirst (P.Policy.order asked.now.policy.now) asked.now.wanted asked.now.units self.old (result, self.new) }
