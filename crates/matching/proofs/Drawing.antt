@@ -2,7 +2,7 @@
 use Rattle.std.proofs.Common.{◌≡◌, ℕ, ◌+◌, ◌-◌, ◌<◌, ◌≤◌, min, Bool, true, false, cond, not, ◌&&◌, eqb, List, [], ◌∷◌, sym, refl, ap, ◌∙◌, subst, inl, inr, ⊎_elim, arith}
 use Rattle.std.specs.List.{AllByRecursion}
 use Rattle.std.proofs.ByRecursion.{All-weaker}
-use Rattle.std.proofs.lemmas.Bool.{cond_both, cond-true}
+use Rattle.std.proofs.lemmas.Bool.{cond_both}
 use Rattle.std.proofs.lemmas.Bool.Decides.{nat_tests}
 use Rattle.lots.specs.declared.rows.LotRow.{LotRow}
 use Rattle.matching.specs.declared.wanted.Draw.{Draw}
@@ -29,10 +29,10 @@ sum_of_le f g h (x ∷ xs) = let a = h x in let ih = sum_of_le f g h xs in omega
 sum_of_gap : (f g : LotRow → ℕ) (n : ℕ) → ((r : LotRow) → f r ≤ g r) → (xs : List LotRow) (a : LotRow) → Member xs a → f a + n ≤ g a → sum_of f xs + n ≤ sum_of g xs
 sum_of_gap f g n h [] a m e = absurd m
 sum_of_gap f g n h (x ∷ xs) a m e =
-    ⊎_elim
-    (λ (q : x ≡ a). let at : f x + n ≤ g x = subst (λ (r : LotRow). f r + n ≤ g r) (sym q) e in let ih = sum_of_le f g h xs in omega arith)
-    (λ (q : Member xs a). let ih = sum_of_gap f g n h xs a q e in let l = h x in omega arith)
-    m
+    let here = h x in
+    let le = sum_of_le f g h xs in
+    let ih = λ (q : Member xs a). sum_of_gap f g n h xs a q e in
+    grind arith
 
 -- the matching lots in order
 abbrev pub insert : (LotRow → LotRow → Bool) → LotRow → List LotRow → List LotRow
@@ -83,15 +83,10 @@ sum_of_zero_all f (x ∷ xs) all = let h = all.0 in let ih = sum_of_zero_all f x
 sum_of_one : (f : LotRow → ℕ) (xs : List LotRow) (r : LotRow) → SerialsRise xs → Member xs r → sum_of (λ y. cond (eqb y.serial r.serial) (f y) 0) xs ≡ f r
 sum_of_one f [] r ri m = absurd m
 sum_of_one f (x ∷ xs) r ri m =
-    ⊎_elim
-    (λ (e : x ≡ r).
-    let rest = sum_of_zero_all (λ y. cond (eqb y.serial r.serial) (f y) 0) xs (All-weaker (λ y. x.serial < y.serial) (λ y. cond (eqb y.serial r.serial) (f y) 0 ≡ 0) (λ y l. grind (arith, nat_tests)) xs ri.0) in
-    grind (arith, nat_tests))
-    (λ (q : Member xs r).
-    let l = all_member (λ y. x.serial < y.serial) xs r ri.0 q in
-    let ih = sum_of_one f xs r ri.1 q in
-    grind (arith, nat_tests))
-    m
+    let none = λ (e : x ≡ r). sum_of_zero_all (λ y. cond (eqb y.serial r.serial) (f y) 0) xs (All-weaker (λ y. x.serial < y.serial) (λ y. cond (eqb y.serial r.serial) (f y) 0 ≡ 0) (λ y l. grind (arith, nat_tests)) xs ri.0) in
+    let below = all_member (λ y. x.serial < y.serial) xs r ri.0 in
+    let ih = sum_of_one f xs r ri.1 in
+    grind (arith, nat_tests)
 
 -- draws
 all_insert_draw : (P : Draw → Type 0) (lt : LotRow → LotRow → Bool) (d : Draw) (ds : List Draw) → P d → AllByRecursion P ds → AllByRecursion P (insert_draw lt d ds)
@@ -151,22 +146,20 @@ module _ (M : LotRow → Bool) (lt : LotRow → LotRow → Bool)
   ordered_sorted [] ri = tt
   ordered_sorted (r ∷ rs) ri =
       let ih = ordered_sorted rs ri.1 in
-      cond_both (M r) (insert lt r (sorted M lt rs)) (sorted M lt rs) (λ ys. Ordered lt ys)
-      (λ _. ordered_insert r (sorted M lt rs) (all_sorted (λ s. r.serial ≡ s.serial → ⊥) M lt rs (All-weaker (λ s. r.serial < s.serial) (λ s. r.serial ≡ s.serial → ⊥) (λ s l q. omega arith) rs ri.0)) ih)
-      (λ _. ih)
+      let more = ordered_insert r (sorted M lt rs) (all_sorted (λ s. r.serial ≡ s.serial → ⊥) M lt rs (All-weaker (λ s. r.serial < s.serial) (λ s. r.serial ≡ s.serial → ⊥) (λ s l q. omega arith) rs ri.0)) ih in
+      grind arith
 
   given_in_order : (zs : List LotRow) (u : ℕ) → Ordered lt zs → sum_of (λ r. min r.units (u - sum_of (λ y. cond (lt y r) y.units 0) zs)) zs ≡ min u (sum_of (λ r. r.units) zs)
   given_in_order [] u o = omega arith
   given_in_order (z ∷ zs) u o =
       let ih = given_in_order zs (u - z.units) o.1 in
       let i = irr z in
-      let own : cond (lt z z) z.units 0 ≡ 0 = grind arith in
-      let later : sum_of (λ y. cond (lt y z) y.units 0) zs ≡ 0 = sum_of_zero_all (λ y. cond (lt y z) y.units 0) zs (All-weaker (λ y. lt z y ≡ true) (λ y. cond (lt y z) y.units 0 ≡ 0)
+      let later = sum_of_zero_all (λ y. cond (lt y z) y.units 0) zs (All-weaker (λ y. lt z y ≡ true) (λ y. cond (lt y z) y.units 0 ≡ 0)
       (λ y l. let t = trans z y z l in grind arith) zs o.0) in
       let rest = sum_of_same_all (λ r. min r.units (u - sum_of (λ y. cond (lt y r) y.units 0) (z ∷ zs))) (λ r. min r.units (u - z.units - sum_of (λ y. cond (lt y r) y.units 0) zs)) zs
       (All-weaker (λ r. lt z r ≡ true) (λ r. min r.units (u - sum_of (λ y. cond (lt y r) y.units 0) (z ∷ zs)) ≡ min r.units (u - z.units - sum_of (λ y. cond (lt y r) y.units 0) zs))
-      (λ r l. let c = cond-true (lt z r) z.units 0 l in omega arith) zs o.0) in
-      omega arith
+      (λ r l. grind arith) zs o.0) in
+      grind arith
 
   units_before_sorted : (xs : List LotRow) (r : LotRow) → sum_of (λ y. cond (lt y r) y.units 0) (sorted M lt xs) ≡ units_before M lt xs r
   units_before_sorted xs r =
@@ -206,9 +199,8 @@ module _ (M : LotRow → Bool) (lt : LotRow → LotRow → Bool)
     order_draws g [] r = tt
     order_draws g (y ∷ ys) r =
         let ih = order_draws g ys r.1 in
-        cond_both (eqb (g y) 0) (draws_in_order lt g ys) (insert_draw lt (record { lot = y; units = g y }) (draws_in_order lt g ys)) (λ ds. InOrder lt ds)
-        (λ _. ih)
-        (λ _. order_insert (record { lot = y; units = g y }) (draws_in_order lt g ys) (all_draws (λ e. y.serial ≡ e.lot.serial → ⊥) lt g ys (All-weaker (λ s. y.serial < s.serial) (λ s. (g s ≡ 0 → ⊥) → y.serial ≡ s.serial → ⊥) (λ s l _ q. omega arith) ys r.0)) ih)
+        let more = order_insert (record { lot = y; units = g y }) (draws_in_order lt g ys) (all_draws (λ e. y.serial ≡ e.lot.serial → ⊥) lt g ys (All-weaker (λ s. y.serial < s.serial) (λ s. (g s ≡ 0 → ⊥) → y.serial ≡ s.serial → ⊥) (λ s l _ q. omega arith) ys r.0)) ih in
+        grind arith
 
     pub emptied : (r a : LotRow) → (gives M lt u xs r ≡ 0 → ⊥) → Member xs a → M a ≡ true → lt a r ≡ true → gives M lt u xs a ≡ a.units
     emptied r a ne there fits before =

@@ -54,9 +54,9 @@ module _ (M : LotRow → Bool) (lt : LotRow → LotRow → Bool)
   best_is : (xs : List LotRow) → Best M lt xs (earliest M lt xs)
   best_is [] = tt
   best_is (r ∷ rs) =
-      let ih = best_is rs in
-      cond_both (M r) (earlier lt r (earliest M lt rs)) (earliest M lt rs) (λ e. Best M lt (r ∷ rs) e)
-      (λ m. best_matching r rs m (earliest M lt rs) ih) (λ m. best_other r rs m (earliest M lt rs) ih)
+      let first = λ (m : M r ≡ true). best_matching r rs m (earliest M lt rs) (best_is rs) in
+      let other = λ (m : M r ≡ false). best_other r rs m (earliest M lt rs) (best_is rs) in
+      grind arith
 
   earliest_same : (xs : List LotRow) → SerialsRise xs → (a b : LotRow) → Earliest M lt xs a → Earliest M lt xs b → a ≡ b
   earliest_same xs ri a b p q =

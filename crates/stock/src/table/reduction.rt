@@ -59,7 +59,7 @@ impl LotTable {
         }
     }
 
-    // What the wanted lots hold goes out, as far as it is asked for.
+    // One lot after another gives, until nothing is left to ask or no wanted lot is left.
     fn draw<P: Policy>(&mut self, asked: &Reduction<P>) -> Draws
         ensures drawn { result ≡ draws_of (P.Policy.order asked.now.policy.now) asked.now.wanted asked.now.units self.old.lots }
         ensures after { self.new ≡ table_after_reduction (P.Policy.order asked.now.policy.now) asked.now.wanted asked.now.units self.old }
@@ -80,7 +80,7 @@ impl LotTable {
 
     // The first of the wanted lots gives what is left to ask, or all that it has; emptied, it is gone.
     // The order is asked with all the units, also where some are drawn already: a lot is touched at most once,
-    // so those that are still there have the units that they had before.
+    // so those that are still there have the units that they had before. `kept` tells the loop what the table keeps.
     fn take<P: Policy>(&mut self, asked: &Reduction<P>, left: u32) -> Option<Draw>
         ensures taken { TakesFirst (matches asked.now.wanted) ((P.Policy.order asked.now.policy.now).before asked.now.units) left self.old (result, self.new) }
         ensures kept { WellKept self.old }
