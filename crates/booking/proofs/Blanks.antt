@@ -1,7 +1,6 @@
 -- The first blank by its place.
-use Rattle.std.proofs.Common.{◌≡◌, ℕ, suc, ◌+◌, ◌<◌, ◌≤◌, Bool, cond, not, ltb, List, [], ◌∷◌, length, get_or, set, ℤ, pos, Some, None, Option, sym, refl, ap, ◌∙◌, arith}
+use Rattle.std.proofs.Common.{◌≡◌, ℕ, ◌<◌, ◌≤◌, cond, ltb, List, [], ◌∷◌, length, get_or, set, ℤ, pos, Some, None, Option, refl, arith}
 use Rattle.std.proofs.lemmas.Bool.Decides.{nat_tests}
-use Rattle.matching.proofs.Sums.{by_bool}
 use Rattle.booking.specs.declared.entry.Entry.{Entry}
 use Rattle.booking.specs.declared.entry.EntryKind.TheVariants.{PlainAmount}
 use Rattle.std.specs.List.{position_or_len}
@@ -21,22 +20,14 @@ blank_place es = position_or_len (λ e. is_unfilled e.kind) es
 pub fill_at : (z : ℤ) (c : ℕ) (es : List Entry) (d : Entry) → blank_place es < length es → fill z c es ≡ set es (blank_place es) (filled_entry z c (get_or es (blank_place es) d))
 fill_at z c [] d h = absurd (omega arith)
 fill_at z c (e ∷ es) d h =
-    by_bool (is_unfilled e.kind)
-    (λ (b : Bool). cond (not b) (1 + blank_place es) 0 < length (e ∷ es) → cond b (filled_entry z c e ∷ es) (e ∷ fill z c es) ≡ set (e ∷ es) (cond (not b) (1 + blank_place es) 0) (filled_entry z c (get_or (e ∷ es) (cond (not b) (1 + blank_place es) 0) d)))
-    (λ _ _. refl)
-    (λ _ l.
-    let next : 1 + blank_place es ≡ suc (blank_place es) = omega arith in
-    ap (λ (ys : List Entry). e ∷ ys) (fill_at z c es d (omega arith))
-    ∙ ap (λ (n : ℕ). set (e ∷ es) n (filled_entry z c (get_or (e ∷ es) n d))) (sym next))
-    h
+    let ih = fill_at z c es d in
+    grind (arith, nat_tests)
 
 pub fill_none : (z : ℤ) (c : ℕ) (es : List Entry) → length es ≤ blank_place es → fill z c es ≡ es
 fill_none z c [] h = refl
 fill_none z c (e ∷ es) h =
-    by_bool (is_unfilled e.kind) (λ (b : Bool). length (e ∷ es) ≤ cond (not b) (1 + blank_place es) 0 → cond b (filled_entry z c e ∷ es) (e ∷ fill z c es) ≡ e ∷ es)
-    (λ _ l. absurd (omega arith))
-    (λ _ l. ap (λ (ys : List Entry). e ∷ ys) (fill_none z c es (omega arith)))
-    h
+    let ih = fill_none z c es in
+    grind (arith, nat_tests)
 
 -- what `position` answers of it
 pub place_found : (es : List Entry) (r : Option ℕ) (n : ℕ) → r ≡ cond (ltb (blank_place es) (length es)) (Some (blank_place es)) None → r ≡ Some n → (n ≡ blank_place es) × (blank_place es < length es)

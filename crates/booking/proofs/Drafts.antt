@@ -1,5 +1,5 @@
 -- One posting more of a draft.
-use Rattle.std.proofs.Common.{◌≡◌, ℕ, ◌+◌, ◌<◌, List, ◌++◌, length, get_or, drop, Some, None, Ok, Option, Result, sym, ap, ◌∙◌}
+use Rattle.std.proofs.Common.{◌≡◌, ℕ, ◌+◌, ◌<◌, List, ◌++◌, length, get_or, drop, Some, None, Ok, Option, Result, sym, ◌∙◌}
 use Rattle.std.proofs.lemmas.List.{append_assoc, at_drop_more}
 use Rattle.refusal.specs.declared.Refusal.{Refusal}
 use Rattle.refusal.specs.declared.Fault.{Fault}
@@ -28,8 +28,8 @@ module _ (o : Order) (day : ℕ) (b : Table × List Entry) where
         → book_postings o day c ps ≡ unless (or_else (at_line p.line q) (first_fault o day t' ps)) (table_after o day t' ps, b.1 ++ (given ++ entries_of o day t' ps))
     after_accepted None c e =
         let same : c ≡ (t', b.1 ++ given) = cc in
-        ap (λ (c : Table × List Entry). book_postings o day c ps) same
-        ∙ ap (λ (es : List Entry). unless (first_fault o day t' ps) (table_after o day t' ps, es)) (append_assoc b.1 given (entries_of o day t' ps))
+        let all = append_assoc b.1 given (entries_of o day t' ps) in
+        cc
     after_accepted (Some r) c e = cc
 
   -- the posting at place i is booked, and what is left gives the rest

@@ -1,7 +1,7 @@
 -- The ranges of what a draft holds: a purchase is within a lot's ranges, and no entry has more units than a lot can have.
 use Rattle.std.specs.Prelude.{Bool, true, ◌&&◌, nat_le}
 use Rattle.lots.specs.Rows.{most}
-use Rattle.matching.specs.declared.wanted.Draw.{Draw}
+use Rattle.stock.specs.Promises.{draw_in_range}
 use Rattle.booking.specs.declared.posting.Posting.{Posting}
 use Rattle.booking.specs.declared.posting.PostingKind.{PostingKind}
 use Rattle.booking.specs.declared.posting.PostingKind.TheVariants.{Blank, Plain, Purchase, Reduction}
@@ -17,9 +17,6 @@ posting_kind_in_range (Reduction units commodity cost date) = true
 
 abbrev pub posting_in_range : Posting → Bool
 posting_in_range p = posting_kind_in_range p.kind
-
-abbrev pub draw_in_range : Draw → Bool
-draw_in_range d = nat_le d.units most
 
 abbrev pub entry_kind_in_range : EntryKind → Bool
 entry_kind_in_range (PlainAmount account amount commodity) = true

@@ -3,9 +3,9 @@
 ghost use Rattle.std.specs.Prelude.{◌≡◌, ◌+◌, ◌≤◌, ◌<◌, ◌∷◌, [], ◌++◌, true, length};
 ghost use Rattle.std.specs.List.{list_all};
 ghost use Rattle.lots.specs.Rows.{in_range};
-ghost use Rattle.stock.specs.Promises.{map_ok};
+ghost use Rattle.stock.specs.Promises.{map_ok, draw_in_range};
 ghost use Rattle.booking.specs.Postings.{entry, draw_entries, lot_date};
-ghost use Rattle.booking.specs.Ranges.{posting_in_range, entry_kind_in_range, draw_in_range};
+ghost use Rattle.booking.specs.Ranges.{posting_in_range, entry_kind_in_range};
 ghost use Rattle.booking.specs.Stages.{book_purchase, book_reduction, book_kind, book_posting, Grows, HasRoom, HasSerials};
 
 use crate::entries::Entries;
@@ -84,14 +84,13 @@ impl Booked {
         ensures defined { map_ok (λ _. self.new) result ≡ book_reduction (P.Policy.order asked.now.policy.now) line asked.now.wanted asked.now.units self.old }
         ensures grows { Grows self.old self.new }
     {
-        // the table tells what it keeps where it is read
-        let _lots = self.lots.lots();
         let draws = self.lots.reduce(asked)?;
         self.enter_draws(line, draws.as_slice());
         Ok(())
     }
 
-    // A posting of each kind.
+    // A posting of each kind. Policy and day are passed side by side and make no struct:
+    // the one is the ledger's and the other the draft's, and nothing but these calls would name the pair.
     fn book_kind<P: Policy>(
         &mut self,
         policy: &P,

@@ -62,6 +62,7 @@ impl<T: Copy + Ranged, const N: usize> RangedList<T, N> {
     }
 
     // Writes over the item at a place; past the end there is none.
+    #[tactic(auto, using(crate::proofs::Passing::pass_set))]
     pub(crate) fn put(&mut self, place: usize, item: T)
         requires { T.in_range item ≡ true }
         ensures { self.new ≡ slice_set self.old place item }

@@ -1,10 +1,11 @@
 -- Bytes of a record: a header, rows, and what stands behind them.
 use Rattle.std.proofs.Common.{◌≡◌, ℕ, ◌+◌, List, [], ◌++◌, length, take, drop, sym, ap, ◌∙◌, zero-add, arith}
 use Rattle.std.proofs.lemmas.List.{append_assoc, length-append, take_at, drop_at, drop-drop, take-append-drop}
+use Rattle.std.proofs.lemmas.Grind.{flat_map-append}
 use Rattle.record.specs.declared.header.Header.{Header}
 use Rattle.record.specs.declared.rows.Row.{Row}
-use Rattle.record.specs.Layout.{header_length, first_free, rows_bytes, header_bytes, write_at, header_after, record_after}
-use Rattle.record.proofs.Written.{rows_bytes_length, rows_bytes_append}
+use Rattle.record.specs.Layout.{header_length, first_free, row_bytes, rows_bytes, header_bytes, write_at, header_after, record_after}
+use Rattle.record.proofs.Written.{rows_bytes_length}
 
 -- bytes written behind a front
 write_behind : (front rest new : List ℕ) (n : ℕ) → length front ≡ n → write_at (front ++ rest) n new ≡ front ++ (new ++ drop (length new) rest)
@@ -37,7 +38,7 @@ recorded_behind old start rows new written h size counted =
       append_assoc old (rows_bytes rows) (rows_bytes new ++ drop (length (rows_bytes new)) behind),
       headed_over old (rows_bytes rows ++ (rows_bytes new ++ drop (length (rows_bytes new)) behind)) (written + length new) h size,
       more,
-      rows_bytes_append rows new,
+      flat_map-append row_bytes rows new,
     ) (simp append_assoc)
 
 -- a record that was not written to, as a header's place and the rest

@@ -6,6 +6,7 @@ use crate::rows::LotRow;
 use std::marker::Model;
 
 // The most units of a lot, and the highest unit cost, in hundredths.
+// `values` has the same number for amounts: it stands here too, since lots rest on no other crate.
 pub const MOST: u32 = 99_999_999;
 
 #[derive(Drop)]

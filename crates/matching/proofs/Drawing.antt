@@ -1,16 +1,16 @@
 -- What the closed form of a reduction draws, in order.
-use Rattle.std.proofs.Common.{◌≡◌, ℕ, ◌+◌, ◌-◌, ◌<◌, ◌≤◌, min, Bool, true, false, cond, not, ◌&&◌, eqb, leb, List, [], ◌∷◌, sym, refl, ap, ◌∙◌, subst, inl, inr, ⊎_elim, arith}
+use Rattle.std.proofs.Common.{◌≡◌, ℕ, ◌+◌, ◌-◌, ◌<◌, ◌≤◌, min, Bool, true, false, cond, not, ◌&&◌, eqb, List, [], ◌∷◌, sym, refl, ap, ◌∙◌, subst, inl, inr, ⊎_elim, arith}
 use Rattle.std.specs.List.{AllByRecursion}
 use Rattle.std.proofs.ByRecursion.{All-weaker}
-use Rattle.std.proofs.lemmas.Bool.{and_from, and_parts, and_right, cond_both, cond-true, cond-false, cases_Bool, cases_lt, both_ways, eqb-true, eqb-false, eq-eqb, ne_eqb}
+use Rattle.std.proofs.lemmas.Bool.{cond_both}
+use Rattle.std.proofs.lemmas.Bool.Decides.{nat_tests}
 use Rattle.lots.specs.declared.rows.LotRow.{LotRow}
-use Rattle.lots.specs.Rows.{with_fewer}
 use Rattle.matching.specs.declared.wanted.Draw.{Draw}
 use Rattle.matching.specs.Sums.{sum_of}
 use Rattle.matching.specs.Matching.{units_if, units_matching}
 use Rattle.matching.specs.Drawing.{units_before, gives, lots_left, insert_draw, draws_in_order}
 use Rattle.matching.specs.Drawn.{SerialsRise, Member, FromMatch, InOrder, units_drawn, Drawn}
-use Rattle.matching.proofs.Sums.{by_bool, sum_of_same, sum_of_draws, gives_most}
+use Rattle.matching.proofs.Sums.{sum_of_same, sum_of_draws, gives_most}
 
 -- by place in the list
 pub all_member : {X : Type 0} (P : X → Type 0) (xs : List X) (x : X) → AllByRecursion P xs → Member xs x → P x
@@ -29,10 +29,10 @@ sum_of_le f g h (x ∷ xs) = let a = h x in let ih = sum_of_le f g h xs in omega
 sum_of_gap : (f g : LotRow → ℕ) (n : ℕ) → ((r : LotRow) → f r ≤ g r) → (xs : List LotRow) (a : LotRow) → Member xs a → f a + n ≤ g a → sum_of f xs + n ≤ sum_of g xs
 sum_of_gap f g n h [] a m e = absurd m
 sum_of_gap f g n h (x ∷ xs) a m e =
-    ⊎_elim
-    (λ (q : x ≡ a). let at : f x + n ≤ g x = subst (λ (r : LotRow). f r + n ≤ g r) (sym q) e in let ih = sum_of_le f g h xs in omega arith)
-    (λ (q : Member xs a). let ih = sum_of_gap f g n h xs a q e in let l = h x in omega arith)
-    m
+    let here = h x in
+    let le = sum_of_le f g h xs in
+    let ih = λ (q : Member xs a). sum_of_gap f g n h xs a q e in
+    grind arith
 
 -- the matching lots in order
 abbrev pub insert : (LotRow → LotRow → Bool) → LotRow → List LotRow → List LotRow
@@ -51,24 +51,25 @@ sum_of_inserted : (lt : LotRow → LotRow → Bool) (f : LotRow → ℕ) (r : Lo
 sum_of_inserted lt f r [] = refl
 sum_of_inserted lt f r (x ∷ xs) =
     let ih = sum_of_inserted lt f r xs in
-    cond_both (lt r x) (r ∷ x ∷ xs) (x ∷ insert lt r xs) (λ ys. sum_of f ys ≡ f r + sum_of f (x ∷ xs)) (λ _. refl) (λ _. omega arith)
+    grind arith
 
 sum_of_sorted : (M : LotRow → Bool) (lt : LotRow → LotRow → Bool) (f : LotRow → ℕ) (xs : List LotRow) → sum_of f (sorted M lt xs) ≡ sum_of (λ r. cond (M r) (f r) 0) xs
 sum_of_sorted M lt f [] = refl
 sum_of_sorted M lt f (r ∷ rs) =
     let ih = sum_of_sorted M lt f rs in
     let i = sum_of_inserted lt f r (sorted M lt rs) in
-    by_bool (M r) (λ (b : Bool). sum_of f (cond b (insert lt r (sorted M lt rs)) (sorted M lt rs)) ≡ cond b (f r) 0 + sum_of (λ r. cond (M r) (f r) 0) rs) (λ _. omega arith) (λ _. omega arith)
+    grind arith
 
 all_insert : (P : LotRow → Type 0) (lt : LotRow → LotRow → Bool) (r : LotRow) (xs : List LotRow) → P r → AllByRecursion P xs → AllByRecursion P (insert lt r xs)
 all_insert P lt r [] p all = (p, tt)
-all_insert P lt r (x ∷ xs) p all = cond_both (lt r x) (r ∷ x ∷ xs) (x ∷ insert lt r xs) (λ ys. AllByRecursion P ys) (λ _. (p, all)) (λ _. (all.0, all_insert P lt r xs p all.1))
+all_insert P lt r (x ∷ xs) p all = let ih = all_insert P lt r xs p all.1 in grind arith
 
 all_sorted : (P : LotRow → Type 0) (M : LotRow → Bool) (lt : LotRow → LotRow → Bool) (xs : List LotRow) → AllByRecursion P xs → AllByRecursion P (sorted M lt xs)
 all_sorted P M lt [] all = tt
 all_sorted P M lt (r ∷ rs) all =
     let ih = all_sorted P M lt rs all.1 in
-    cond_both (M r) (insert lt r (sorted M lt rs)) (sorted M lt rs) (λ ys. AllByRecursion P ys) (λ _. all_insert P lt r (sorted M lt rs) all.0 ih) (λ _. ih)
+    let more = all_insert P lt r (sorted M lt rs) all.0 ih in
+    grind arith
 
 sum_of_same_all : (f g : LotRow → ℕ) (xs : List LotRow) → AllByRecursion (λ r. f r ≡ g r) xs → sum_of f xs ≡ sum_of g xs
 sum_of_same_all f g [] all = refl
@@ -82,57 +83,46 @@ sum_of_zero_all f (x ∷ xs) all = let h = all.0 in let ih = sum_of_zero_all f x
 sum_of_one : (f : LotRow → ℕ) (xs : List LotRow) (r : LotRow) → SerialsRise xs → Member xs r → sum_of (λ y. cond (eqb y.serial r.serial) (f y) 0) xs ≡ f r
 sum_of_one f [] r ri m = absurd m
 sum_of_one f (x ∷ xs) r ri m =
-    ⊎_elim
-    (λ (e : x ≡ r).
-    let here : cond (eqb x.serial r.serial) (f x) 0 ≡ f r = cond-true (eqb x.serial r.serial) (f x) 0 (eq-eqb x.serial r.serial (ap (λ (y : LotRow). y.serial) e)) ∙ ap f e in
-    let s : x.serial ≡ r.serial = ap (λ (y : LotRow). y.serial) e in
-    let rest = sum_of_zero_all (λ y. cond (eqb y.serial r.serial) (f y) 0) xs (All-weaker (λ y. x.serial < y.serial) (λ y. cond (eqb y.serial r.serial) (f y) 0 ≡ 0) (λ y l. cond-false (eqb y.serial r.serial) (f y) 0 (ne_eqb y.serial r.serial (λ q. omega arith))) xs ri.0) in
-    omega arith)
-    (λ (q : Member xs r).
-    let l = all_member (λ y. x.serial < y.serial) xs r ri.0 q in
-    let off : cond (eqb x.serial r.serial) (f x) 0 ≡ 0 = cond-false (eqb x.serial r.serial) (f x) 0 (ne_eqb x.serial r.serial (λ z. omega arith)) in
-    let ih = sum_of_one f xs r ri.1 q in
-    omega arith)
-    m
+    let none = λ (e : x ≡ r). sum_of_zero_all (λ y. cond (eqb y.serial r.serial) (f y) 0) xs (All-weaker (λ y. x.serial < y.serial) (λ y. cond (eqb y.serial r.serial) (f y) 0 ≡ 0) (λ y l. grind (arith, nat_tests)) xs ri.0) in
+    let below = all_member (λ y. x.serial < y.serial) xs r ri.0 in
+    let ih = sum_of_one f xs r ri.1 in
+    grind (arith, nat_tests)
 
 -- draws
 all_insert_draw : (P : Draw → Type 0) (lt : LotRow → LotRow → Bool) (d : Draw) (ds : List Draw) → P d → AllByRecursion P ds → AllByRecursion P (insert_draw lt d ds)
 all_insert_draw P lt d [] p all = (p, tt)
-all_insert_draw P lt d (e ∷ es) p all = cond_both (lt d.lot e.lot) (d ∷ e ∷ es) (e ∷ insert_draw lt d es) (λ ys. AllByRecursion P ys) (λ _. (p, all)) (λ _. (all.0, all_insert_draw P lt d es p all.1))
+all_insert_draw P lt d (e ∷ es) p all = let ih = all_insert_draw P lt d es p all.1 in grind arith
 
 pub all_draws : (P : Draw → Type 0) (lt : LotRow → LotRow → Bool) (g : LotRow → ℕ) (xs : List LotRow) → AllByRecursion (λ r. (g r ≡ 0 → ⊥) → P (record { lot = r; units = g r })) xs → AllByRecursion P (draws_in_order lt g xs)
 all_draws P lt g [] all = tt
 all_draws P lt g (r ∷ rs) all =
     let ih = all_draws P lt g rs all.1 in
-    cond_both (eqb (g r) 0) (draws_in_order lt g rs) (insert_draw lt (record { lot = r; units = g r }) (draws_in_order lt g rs)) (λ ds. AllByRecursion P ds)
-    (λ _. ih)
-    (λ e. all_insert_draw P lt (record { lot = r; units = g r }) (draws_in_order lt g rs) (all.0 (eqb-false (g r) 0 e)) ih)
+    let here = all.0 in
+    let more = all_insert_draw P lt (record { lot = r; units = g r }) (draws_in_order lt g rs) in
+    grind (arith, nat_tests)
 
 member_insert_here : (lt : LotRow → LotRow → Bool) (d : Draw) (ds : List Draw) → Member (insert_draw lt d ds) d
 member_insert_here lt d [] = inl refl
-member_insert_here lt d (e ∷ es) = cond_both (lt d.lot e.lot) (d ∷ e ∷ es) (e ∷ insert_draw lt d es) (λ ys. Member ys d) (λ _. inl refl) (λ _. inr (member_insert_here lt d es))
+member_insert_here lt d (e ∷ es) = let ih = member_insert_here lt d es in grind arith
 
 member_insert_there : (lt : LotRow → LotRow → Bool) (d x : Draw) (ds : List Draw) → Member ds x → Member (insert_draw lt d ds) x
 member_insert_there lt d x [] m = absurd m
 member_insert_there lt d x (e ∷ es) m =
-    cond_both (lt d.lot e.lot) (d ∷ e ∷ es) (e ∷ insert_draw lt d es) (λ ys. Member ys x) (λ _. inr m)
-    (λ _. ⊎_elim (λ (q : e ≡ x). inl q) (λ (q : Member es x). inr (member_insert_there lt d x es q)) m)
+    let ih = member_insert_there lt d x es in
+    grind arith
 
 member_draws : (lt : LotRow → LotRow → Bool) (g : LotRow → ℕ) (xs : List LotRow) (a : LotRow) → Member xs a → (g a ≡ 0 → ⊥) → Member (draws_in_order lt g xs) (record { lot = a; units = g a })
 member_draws lt g [] a m ne = absurd m
 member_draws lt g (r ∷ rs) a m ne =
-    cond_both (eqb (g r) 0) (draws_in_order lt g rs) (insert_draw lt (record { lot = r; units = g r }) (draws_in_order lt g rs)) (λ ds. Member ds (record { lot = a; units = g a }))
-    (λ e. ⊎_elim (λ (q : r ≡ a). absurd (ne (ap g (sym q) ∙ eqb-true (g r) 0 e))) (λ (q : Member rs a). member_draws lt g rs a q ne) m)
-    (λ e. ⊎_elim
-    (λ (q : r ≡ a). subst (λ (b : LotRow). Member (insert_draw lt (record { lot = r; units = g r }) (draws_in_order lt g rs)) (record { lot = b; units = g b })) q (member_insert_here lt (record { lot = r; units = g r }) (draws_in_order lt g rs)))
-    (λ (q : Member rs a). member_insert_there lt (record { lot = r; units = g r }) (record { lot = a; units = g a }) (draws_in_order lt g rs) (member_draws lt g rs a q ne))
-    m)
+    let d : Draw = record { lot = r; units = g r } in
+    let ih = λ (q : Member rs a). member_draws lt g rs a q ne in
+    let first = member_insert_here lt d (draws_in_order lt g rs) in
+    let later = member_insert_there lt d (record { lot = a; units = g a }) (draws_in_order lt g rs) in
+    grind (arith, nat_tests)
 
 pub left_same : (f g : LotRow → ℕ) (xs : List LotRow) → AllByRecursion (λ r. f r ≡ g r) xs → lots_left f xs ≡ lots_left g xs
 left_same f g [] all = refl
-left_same f g (r ∷ rs) all =
-    ap (λ (n : ℕ). cond (leb r.units n) (lots_left f rs) (with_fewer r n ∷ lots_left f rs)) all.0
-    ∙ ap (λ (ys : List LotRow). cond (leb r.units (g r)) ys (with_fewer r (g r) ∷ ys)) (left_same f g rs all.1)
+left_same f g (r ∷ rs) all = let here = all.0 in let ih = left_same f g rs all.1 in cc
 
 module _ (M : LotRow → Bool) (lt : LotRow → LotRow → Bool)
     (irr : (a : LotRow) → lt a a ≡ false) (trans : (a b c : LotRow) → lt a b ≡ true → lt b c ≡ true → lt a c ≡ true)
@@ -141,16 +131,9 @@ module _ (M : LotRow → Bool) (lt : LotRow → LotRow → Bool)
   units_before_gap : (xs : List LotRow) (a b : LotRow) → Member xs a → M a ≡ true → lt a b ≡ true → units_before M lt xs a + a.units ≤ units_before M lt xs b
   units_before_gap xs a b there fits before =
       sum_of_gap (units_if (λ y. M y && lt y a)) (units_if (λ y. M y && lt y b)) a.units
-      (λ r. ⊎_elim
-      (λ (y : (M r && lt r a) ≡ true).
-      let p = and_parts (M r) (lt r a) y in
-      let q = cond-true (M r && lt r b) r.units 0 (and_from (M r) (lt r b) p.0 (trans r a b p.1 before)) in
-      let s = cond-true (M r && lt r a) r.units 0 y in omega arith)
-      (λ (n : (M r && lt r a) ≡ false). let s = cond-false (M r && lt r a) r.units 0 n in omega arith)
-      (cases_Bool (M r && lt r a)))
+      (λ r. let t = trans r a b in grind arith)
       xs a there
-      (let p = cond-false (M a && lt a a) a.units 0 (and_right (M a) (lt a a) (irr a)) in
-      let q = cond-true (M a && lt a b) a.units 0 (and_from (M a) (lt a b) fits before) in omega arith)
+      (let i = irr a in grind arith)
 
   ordered_insert : (r : LotRow) (xs : List LotRow) → AllByRecursion (λ s. r.serial ≡ s.serial → ⊥) xs → Ordered lt xs → Ordered lt (insert lt r xs)
   ordered_insert r [] apart o = (tt, tt)
@@ -163,26 +146,25 @@ module _ (M : LotRow → Bool) (lt : LotRow → LotRow → Bool)
   ordered_sorted [] ri = tt
   ordered_sorted (r ∷ rs) ri =
       let ih = ordered_sorted rs ri.1 in
-      cond_both (M r) (insert lt r (sorted M lt rs)) (sorted M lt rs) (λ ys. Ordered lt ys)
-      (λ _. ordered_insert r (sorted M lt rs) (all_sorted (λ s. r.serial ≡ s.serial → ⊥) M lt rs (All-weaker (λ s. r.serial < s.serial) (λ s. r.serial ≡ s.serial → ⊥) (λ s l q. omega arith) rs ri.0)) ih)
-      (λ _. ih)
+      let more = ordered_insert r (sorted M lt rs) (all_sorted (λ s. r.serial ≡ s.serial → ⊥) M lt rs (All-weaker (λ s. r.serial < s.serial) (λ s. r.serial ≡ s.serial → ⊥) (λ s l q. omega arith) rs ri.0)) ih in
+      grind arith
 
   given_in_order : (zs : List LotRow) (u : ℕ) → Ordered lt zs → sum_of (λ r. min r.units (u - sum_of (λ y. cond (lt y r) y.units 0) zs)) zs ≡ min u (sum_of (λ r. r.units) zs)
   given_in_order [] u o = omega arith
   given_in_order (z ∷ zs) u o =
       let ih = given_in_order zs (u - z.units) o.1 in
-      let own : cond (lt z z) z.units 0 ≡ 0 = cond-false (lt z z) z.units 0 (irr z) in
-      let later : sum_of (λ y. cond (lt y z) y.units 0) zs ≡ 0 = sum_of_zero_all (λ y. cond (lt y z) y.units 0) zs (All-weaker (λ y. lt z y ≡ true) (λ y. cond (lt y z) y.units 0 ≡ 0)
-      (λ y l. cond-false (lt y z) y.units 0 (⊎_elim (λ (b : lt y z ≡ true). absurd (both_ways (lt z z) (irr z) (trans z y z l b))) (λ (b : lt y z ≡ false). b) (cases_Bool (lt y z)))) zs o.0) in
+      let i = irr z in
+      let later = sum_of_zero_all (λ y. cond (lt y z) y.units 0) zs (All-weaker (λ y. lt z y ≡ true) (λ y. cond (lt y z) y.units 0 ≡ 0)
+      (λ y l. let t = trans z y z l in grind arith) zs o.0) in
       let rest = sum_of_same_all (λ r. min r.units (u - sum_of (λ y. cond (lt y r) y.units 0) (z ∷ zs))) (λ r. min r.units (u - z.units - sum_of (λ y. cond (lt y r) y.units 0) zs)) zs
       (All-weaker (λ r. lt z r ≡ true) (λ r. min r.units (u - sum_of (λ y. cond (lt y r) y.units 0) (z ∷ zs)) ≡ min r.units (u - z.units - sum_of (λ y. cond (lt y r) y.units 0) zs))
-      (λ r l. let c = cond-true (lt z r) z.units 0 l in omega arith) zs o.0) in
-      omega arith
+      (λ r l. grind arith) zs o.0) in
+      grind arith
 
   units_before_sorted : (xs : List LotRow) (r : LotRow) → sum_of (λ y. cond (lt y r) y.units 0) (sorted M lt xs) ≡ units_before M lt xs r
   units_before_sorted xs r =
       sum_of_sorted M lt (λ y. cond (lt y r) y.units 0) xs
-      ∙ sum_of_same (λ y. cond (M y) (cond (lt y r) y.units 0) 0) (units_if (λ y. M y && lt y r)) (λ y. by_bool (M y) (λ (b : Bool). cond b (cond (lt y r) y.units 0) 0 ≡ cond (b && lt y r) y.units 0) (λ _. refl) (λ _. refl)) xs
+      ∙ sum_of_same (λ y. cond (M y) (cond (lt y r) y.units 0) 0) (units_if (λ y. M y && lt y r)) (λ y. grind arith) xs
 
   gives_all : (xs : List LotRow) (u : ℕ) → SerialsRise xs → sum_of (gives M lt u xs) xs ≡ min u (units_matching M xs)
   gives_all xs u ri =
@@ -200,7 +182,7 @@ module _ (M : LotRow → Bool) (lt : LotRow → LotRow → Bool)
         omega arith
 
     fits_if : (r : LotRow) → (gives M lt u xs r ≡ 0 → ⊥) → M r ≡ true
-    fits_if r ne = ⊎_elim (λ (y : M r ≡ true). y) (λ (n : M r ≡ false). absurd (ne (cond-false (M r) (min r.units (u - units_before M lt xs r)) 0 n))) (cases_Bool (M r))
+    fits_if r ne = grind arith
 
     all_from_matches : AllByRecursion (FromMatch M xs) (draws_in_order lt (gives M lt u xs) xs)
     all_from_matches = all_draws (FromMatch M xs) lt (gives M lt u xs) xs (all_from_member (λ r. (gives M lt u xs r ≡ 0 → ⊥) → FromMatch M xs (record { lot = r; units = gives M lt u xs r })) xs
@@ -217,18 +199,13 @@ module _ (M : LotRow → Bool) (lt : LotRow → LotRow → Bool)
     order_draws g [] r = tt
     order_draws g (y ∷ ys) r =
         let ih = order_draws g ys r.1 in
-        cond_both (eqb (g y) 0) (draws_in_order lt g ys) (insert_draw lt (record { lot = y; units = g y }) (draws_in_order lt g ys)) (λ ds. InOrder lt ds)
-        (λ _. ih)
-        (λ _. order_insert (record { lot = y; units = g y }) (draws_in_order lt g ys) (all_draws (λ e. y.serial ≡ e.lot.serial → ⊥) lt g ys (All-weaker (λ s. y.serial < s.serial) (λ s. (g s ≡ 0 → ⊥) → y.serial ≡ s.serial → ⊥) (λ s l _ q. omega arith) ys r.0)) ih)
+        let more = order_insert (record { lot = y; units = g y }) (draws_in_order lt g ys) (all_draws (λ e. y.serial ≡ e.lot.serial → ⊥) lt g ys (All-weaker (λ s. y.serial < s.serial) (λ s. (g s ≡ 0 → ⊥) → y.serial ≡ s.serial → ⊥) (λ s l _ q. omega arith) ys r.0)) ih in
+        grind arith
 
     pub emptied : (r a : LotRow) → (gives M lt u xs r ≡ 0 → ⊥) → Member xs a → M a ≡ true → lt a r ≡ true → gives M lt u xs a ≡ a.units
     emptied r a ne there fits before =
         let gap = units_before_gap xs a r there fits before in
-        let gr = cond-true (M r) (min r.units (u - units_before M lt xs r)) 0 (fits_if r ne) in
-        let ga = cond-true (M a) (min a.units (u - units_before M lt xs a)) 0 fits in
-        let left : min r.units (u - units_before M lt xs r) ≡ 0 → ⊥ = λ z. ne (gr ∙ z) in
-        let with_more : units_before M lt xs r < u = ⊎_elim (λ (l : units_before M lt xs r < u). l) (λ (l : u ≤ units_before M lt xs r). absurd (left (omega arith))) (cases_lt (units_before M lt xs r) u) in
-        omega arith
+        grind arith
 
     all_emptied : AllByRecursion (λ d. (a : LotRow) → Member xs a → M a ≡ true → lt a d.lot ≡ true → Member (draws_in_order lt (gives M lt u xs) xs) (record { lot = a; units = a.units })) (draws_in_order lt (gives M lt u xs) xs)
     all_emptied = all_draws (λ d. (a : LotRow) → Member xs a → M a ≡ true → lt a d.lot ≡ true → Member (draws_in_order lt (gives M lt u xs) xs) (record { lot = a; units = a.units })) lt (gives M lt u xs) xs
@@ -241,7 +218,7 @@ module _ (M : LotRow → Bool) (lt : LotRow → LotRow → Bool)
     drawn_is_given : (r : LotRow) → Member xs r → gives M lt u xs r ≡ units_drawn (draws_in_order lt (gives M lt u xs) xs) r
     drawn_is_given r there =
         let g = gives M lt u xs in
-        sym (sum_of_draws (λ d. cond (eqb d.lot.serial r.serial) d.units 0) lt g (λ y z. cond_both (eqb y.serial r.serial) (g y) 0 (λ n. n ≡ 0) (λ _. z) (λ _. refl)) xs ∙ sum_of_one g xs r ri there)
+        sym (sum_of_draws (λ d. cond (eqb d.lot.serial r.serial) d.units 0) lt g (λ y z. grind arith) xs ∙ sum_of_one g xs r ri there)
 
     pub closed_form_is_drawn : Drawn M lt u xs (lots_left (gives M lt u xs) xs) (draws_in_order lt (gives M lt u xs) xs)
     closed_form_is_drawn = record {

@@ -1,8 +1,8 @@
 -- The earliest matching lot: what the closed form names is what the relation says, and there is one.
-use Rattle.std.proofs.Common.{◌≡◌, ℕ, zero, suc, ◌<◌, ◌≤◌, Bool, true, false, not, List, [], ◌∷◌, length, get_or, Some, None, Option, sym, refl, ap, ◌∙◌, subst, inl, inr, ⊎_elim, arith}
+use Rattle.std.proofs.Common.{◌≡◌, ℕ, zero, suc, ◌<◌, ◌≤◌, Bool, true, false, not, List, [], ◌∷◌, length, get_or, Some, None, Option, refl, ap, ◌∙◌, inl, inr, arith}
 use Rattle.std.specs.List.{AllByRecursion}
 use Rattle.std.proofs.ByRecursion.{All-from_get_or}
-use Rattle.std.proofs.lemmas.Bool.{cond_both, cond-false, cases_Bool, cases_eq, both_ways}
+use Rattle.std.proofs.lemmas.Bool.{cond_both}
 use Rattle.lots.specs.declared.rows.LotRow.{LotRow}
 use Rattle.lots.specs.Rows.{no_lot}
 use Rattle.lots.specs.Orders.{Order, Keeps}
@@ -20,39 +20,27 @@ Best M lt xs (Some b) = Earliest M lt xs b
 member_same : (xs : List LotRow) → SerialsRise xs → (a b : LotRow) → Member xs a → Member xs b → a.serial ≡ b.serial → a ≡ b
 member_same [] ri a b m n e = absurd m
 member_same (x ∷ xs) ri a b m n e =
-    ⊎_elim
-    (λ (p : x ≡ a). ⊎_elim
-    (λ (q : x ≡ b). sym p ∙ q)
-    (λ (q : Member xs b). let l = all_member (λ s. x.serial < s.serial) xs b ri.0 q in let s = ap (λ (r : LotRow). r.serial) p in absurd (omega arith))
-    n)
-    (λ (p : Member xs a). ⊎_elim
-    (λ (q : x ≡ b). let l = all_member (λ s. x.serial < s.serial) xs a ri.0 p in let s = ap (λ (r : LotRow). r.serial) q in absurd (omega arith))
-    (λ (q : Member xs b). member_same xs ri.1 a b p q e)
-    n)
-    m
+    let below_a = all_member (λ s. x.serial < s.serial) xs a ri.0 in
+    let below_b = all_member (λ s. x.serial < s.serial) xs b ri.0 in
+    let ih = member_same xs ri.1 a b in
+    grind arith
 
 module _ (M : LotRow → Bool) (lt : LotRow → LotRow → Bool)
     (irr : (a : LotRow) → lt a a ≡ false) (trans : (a b c : LotRow) → lt a b ≡ true → lt b c ≡ true → lt a c ≡ true)
     (one : (a b : LotRow) → (a.serial ≡ b.serial → ⊥) → lt a b ≡ not (lt b a)) where
   best_matching : (r : LotRow) (rs : List LotRow) → M r ≡ true → (e : Option LotRow) → Best M lt rs e → Best M lt (r ∷ rs) (earlier lt r e)
-  best_matching r rs m None all = record { there = inl refl; fits = m; least = λ a there fits. ⊎_elim (λ (q : r ≡ a). subst (λ (z : LotRow). lt z r ≡ false) q (irr r)) (λ (q : Member rs a). absurd (both_ways (M a) (all_member (λ s. M s ≡ false) rs a all q) fits)) there }
+  best_matching r rs m None all = record { there = inl refl; fits = m; least = λ a there fits. let own = irr r in let other = all_member (λ s. M s ≡ false) rs a all in grind arith }
   best_matching r rs m (Some b) best =
       cond_both (lt r b) (Some r) (Some b) (λ e. Best M lt (r ∷ rs) e)
       (λ before. record {
         there = inl refl;
         fits = m;
-        least = λ a there fits. ⊎_elim
-            (λ (q : r ≡ a). subst (λ (z : LotRow). lt z r ≡ false) q (irr r))
-            (λ (q : Member rs a). ⊎_elim (λ (t : lt a r ≡ true). absurd (both_ways (lt a b) (best.least a q fits) (trans a r b t before))) (λ (f : lt a r ≡ false). f) (cases_Bool (lt a r)))
-            there;
+        least = λ a there fits. let own = irr r in let least = best.least a in let t = trans a r b in grind arith;
       })
       (λ after. record {
         there = inr best.there;
         fits = best.fits;
-        least = λ a there fits. ⊎_elim
-            (λ (q : r ≡ a). subst (λ (z : LotRow). lt z b ≡ false) q after)
-            (λ (q : Member rs a). best.least a q fits)
-            there;
+        least = λ a there fits. let least = best.least a in grind arith;
       })
 
   best_other : (r : LotRow) (rs : List LotRow) → M r ≡ false → (e : Option LotRow) → Best M lt rs e → Best M lt (r ∷ rs) e
@@ -60,33 +48,31 @@ module _ (M : LotRow → Bool) (lt : LotRow → LotRow → Bool)
   best_other r rs m (Some b) best = record {
     there = inr best.there;
     fits = best.fits;
-    least = λ a there fits. ⊎_elim
-        (λ (q : r ≡ a). absurd (both_ways (M a) (subst (λ (z : LotRow). M z ≡ false) q m) fits))
-        (λ (q : Member rs a). best.least a q fits)
-        there;
+    least = λ a there fits. let least = best.least a in grind arith;
   }
 
   best_is : (xs : List LotRow) → Best M lt xs (earliest M lt xs)
   best_is [] = tt
   best_is (r ∷ rs) =
-      let ih = best_is rs in
-      cond_both (M r) (earlier lt r (earliest M lt rs)) (earliest M lt rs) (λ e. Best M lt (r ∷ rs) e)
-      (λ m. best_matching r rs m (earliest M lt rs) ih) (λ m. best_other r rs m (earliest M lt rs) ih)
+      let first = λ (m : M r ≡ true). best_matching r rs m (earliest M lt rs) (best_is rs) in
+      let other = λ (m : M r ≡ false). best_other r rs m (earliest M lt rs) (best_is rs) in
+      grind arith
 
   earliest_same : (xs : List LotRow) → SerialsRise xs → (a b : LotRow) → Earliest M lt xs a → Earliest M lt xs b → a ≡ b
   earliest_same xs ri a b p q =
-      ⊎_elim
-      (λ (e : a.serial ≡ b.serial). member_same xs ri a b p.there q.there e)
-      (λ (ne : a.serial ≡ b.serial → ⊥). absurd (both_ways (lt a b) (q.least a p.there p.fits) (one a b ne ∙ ap not (p.least b q.there q.fits))))
-      (cases_eq a.serial b.serial)
+      let same = member_same xs ri a b p.there q.there in
+      let lower = q.least a p.there p.fits in
+      let upper = p.least b q.there q.fits in
+      let o = one a b in
+      grind arith
 
   -- the policy's answer is its answer for the earliest lot
   unsettled_at : (f : LotRow → Bool) (xs : List LotRow) → (e : Option LotRow) → Best M lt xs e → settled_with f e ≡ false → (r : LotRow) × Earliest M lt xs r × (f r ≡ false)
-  unsettled_at f xs None all a = absurd (both_ways true a refl)
+  unsettled_at f xs None all a = cc
   unsettled_at f xs (Some b) best a = (b, best, a)
 
   answer_at : (f : LotRow → Bool) (xs : List LotRow) → SerialsRise xs → (r : LotRow) → Earliest M lt xs r → (e : Option LotRow) → Best M lt xs e → settled_with f e ≡ f r
-  answer_at f xs ri r first None all = absurd (both_ways (M r) (all_member (λ s. M s ≡ false) xs r all first.there) first.fits)
+  answer_at f xs ri r first None all = let other = all_member (λ s. M s ≡ false) xs r all first.there in let fits = first.fits in cc
   answer_at f xs ri r first (Some b) best = ap f (earliest_same xs ri b r best first)
 
 member_at : (xs : List LotRow) (i : ℕ) → i < length xs → Member xs (get_or xs i no_lot)
@@ -104,7 +90,7 @@ earliest_at M lt xs i e = record {
 
 none_earliest : (M : LotRow → Bool) (lt : LotRow → LotRow → Bool) (xs : List LotRow) → AllByRecursion (λ r. M r ≡ false) xs → earliest M lt xs ≡ None
 none_earliest M lt [] all = refl
-none_earliest M lt (r ∷ rs) all = cond-false (M r) (earlier lt r (earliest M lt rs)) (earliest M lt rs) all.0 ∙ none_earliest M lt rs all.1
+none_earliest M lt (r ∷ rs) all = let here = all.0 in let ih = none_earliest M lt rs all.1 in cc
 
 module _ (o : Order) (keeps : Keeps o) (M : LotRow → Bool) (u : ℕ) (xs : List LotRow) where
   best : Best M (o.before u) xs (earliest M (o.before u) xs)

@@ -1,8 +1,8 @@
 -- The earliest matching lot, one place after another.
-use Rattle.std.proofs.Common.{◌≡◌, ℕ, suc, ◌+◌, ◌<◌, Bool, true, false, cond, List, [], ◌∷◌, length, get_or, Some, None, Option, ap, ◌∙◌, subst, ⊎_elim, arith, below_more}
+use Rattle.std.proofs.Common.{◌≡◌, ℕ, suc, ◌+◌, ◌<◌, Bool, true, false, cond, List, [], ◌∷◌, length, get_or, Some, None, Option, ap, ◌∙◌, subst, arith, below_more}
 use Rattle.std.specs.List.{enumerate_from, filter, fold, reduce}
 use Rattle.std.specs.Option.{option_map}
-use Rattle.std.proofs.lemmas.Bool.{both_ways, cases_Bool, cond_both}
+use Rattle.std.proofs.lemmas.Bool.{cond_both}
 use Rattle.lots.specs.declared.rows.LotRow.{LotRow}
 use Rattle.lots.specs.Rows.{no_lot}
 use Rattle.matching.specs.Places.{NoneMatch, EarliestAt, Found}
@@ -15,7 +15,7 @@ module _ (M : LotRow → Bool) (lt : LotRow → LotRow → Bool) (xs : List LotR
   -- the lot at n does not match
   pub skipped : (best : Option ℕ) → M (get_or xs n no_lot) ≡ false → Found M lt xs n best → Found M lt xs (n + 1) best
   skipped None f none = below_more (λ k. M (get_or xs k no_lot) ≡ false) n none f
-  skipped (Some b) f e = stays b e (λ m. absurd (both_ways (M (get_or xs n no_lot)) f m))
+  skipped (Some b) f e = stays b e (λ m. cc)
 
   module _ (irr : (a : LotRow) → lt a a ≡ false) (fits : M (get_or xs n no_lot) ≡ true) where
     at_n : ((k : ℕ) → k < n → M (get_or xs k no_lot) ≡ true → lt (get_or xs k no_lot) (get_or xs n no_lot) ≡ false) → EarliestAt M lt xs (n + 1) n
@@ -23,15 +23,12 @@ module _ (M : LotRow → Bool) (lt : LotRow → LotRow → Bool) (xs : List LotR
 
     -- it is the first that matches
     pub first_match : NoneMatch M xs n → EarliestAt M lt xs (n + 1) n
-    first_match none = at_n (λ k l m. absurd (both_ways (M (get_or xs k no_lot)) (none k l) m))
+    first_match none = at_n (λ k l m. let other = none k l in cc)
 
     -- it comes before the best so far
     pub overtakes : ((a b c : LotRow) → lt a b ≡ true → lt b c ≡ true → lt a c ≡ true) → (b : ℕ) → EarliestAt M lt xs n b → lt (get_or xs n no_lot) (get_or xs b no_lot) ≡ true → EarliestAt M lt xs (n + 1) n
     overtakes trans b e l =
-        at_n (λ k h m. ⊎_elim
-        (λ (s : lt (get_or xs k no_lot) (get_or xs n no_lot) ≡ true). absurd (both_ways (lt (get_or xs k no_lot) (get_or xs b no_lot)) (e.least k h m) (trans (get_or xs k no_lot) (get_or xs n no_lot) (get_or xs b no_lot) s l)))
-        (λ (s : lt (get_or xs k no_lot) (get_or xs n no_lot) ≡ false). s)
-        (cases_Bool (lt (get_or xs k no_lot) (get_or xs n no_lot))))
+        at_n (λ k h m. let least = e.least k h m in let t = trans (get_or xs k no_lot) (get_or xs n no_lot) (get_or xs b no_lot) in grind arith)
 
 -- By a chain over the lots with their places: of those that match, the one that none of them comes before.
 module _ (M : LotRow → Bool) (lt : LotRow → LotRow → Bool) where

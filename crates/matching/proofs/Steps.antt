@@ -1,16 +1,15 @@
 -- One draw from the earliest matching lot x, which stands between the lots ys and zs, and then the rest.
-use Rattle.std.proofs.Common.{◌≡◌, ℕ, ◌+◌, ◌-◌, ◌<◌, ◌≤◌, min, Bool, true, false, cond, ◌&&◌, eqb, leb, List, [], ◌∷◌, ◌++◌, refl, ap, ◌∙◌, arith}
-use native.Mathlib.Nat.{sub-zero}
+use Rattle.std.proofs.Common.{◌≡◌, ℕ, ◌+◌, ◌-◌, ◌<◌, ◌≤◌, min, Bool, true, false, ◌&&◌, ◌⊎◌, List, [], ◌∷◌, ◌++◌, length, get_or, refl, ap, ◌∙◌, ⊎_elim, arith}
 use Rattle.std.specs.List.{AllByRecursion}
-use Rattle.std.proofs.ByRecursion.{All-weaker}
-use Rattle.std.proofs.lemmas.Bool.{and_from, and_right, cond-true, cond-false, le-leb, lt-leb, eq-eqb, ne_eqb, eqb-false}
+use Rattle.std.proofs.ByRecursion.{All-weaker, All-from_get_or}
+use Rattle.std.proofs.lemmas.Bool.Decides.{nat_tests}
 use Rattle.lots.specs.declared.rows.LotRow.{LotRow}
-use Rattle.lots.specs.Rows.{with_fewer}
+use Rattle.lots.specs.Rows.{no_lot, with_fewer}
 use Rattle.matching.specs.declared.wanted.Draw.{Draw}
 use Rattle.matching.specs.Sums.{sum_of}
-use Rattle.matching.specs.Matching.{units_if, units_matching}
+use Rattle.matching.specs.Matching.{units_if}
+use Rattle.matching.specs.Places.{NoneMatch}
 use Rattle.matching.specs.Drawing.{units_before, gives, lots_left, insert_draw, draws_in_order, draws, left_over}
-use Rattle.matching.proofs.Sums.{by_bool}
 use Rattle.matching.proofs.Drawing.{sum_of_zero_all, all_draws, left_same}
 
 pub sum_of_split : (f : LotRow → ℕ) (ys : List LotRow) (x : LotRow) (zs : List LotRow) → sum_of f (ys ++ x ∷ zs) ≡ f x + sum_of f (ys ++ zs)
@@ -20,67 +19,52 @@ sum_of_split f (y ∷ ys) x zs = let ih = sum_of_split f ys x zs in omega arith
 -- draws
 draws_same : (lt : LotRow → LotRow → Bool) (f g : LotRow → ℕ) (xs : List LotRow) → AllByRecursion (λ r. f r ≡ g r) xs → draws_in_order lt f xs ≡ draws_in_order lt g xs
 draws_same lt f g [] all = refl
-draws_same lt f g (r ∷ rs) all =
-    ap (λ (n : ℕ). cond (eqb n 0) (draws_in_order lt f rs) (insert_draw lt (record { lot = r; units = n }) (draws_in_order lt f rs))) all.0
-    ∙ ap (λ (ds : List Draw). cond (eqb (g r) 0) ds (insert_draw lt (record { lot = r; units = g r }) ds)) (draws_same lt f g rs all.1)
+draws_same lt f g (r ∷ rs) all = let here = all.0 in let ih = draws_same lt f g rs all.1 in cc
 
 draws_none : (lt : LotRow → LotRow → Bool) (f : LotRow → ℕ) (xs : List LotRow) → AllByRecursion (λ r. f r ≡ 0) xs → draws_in_order lt f xs ≡ []
 draws_none lt f [] all = refl
-draws_none lt f (r ∷ rs) all =
-    cond-true (eqb (f r) 0) (draws_in_order lt f rs) (insert_draw lt (record { lot = r; units = f r }) (draws_in_order lt f rs)) (eq-eqb (f r) 0 all.0) ∙ draws_none lt f rs all.1
+draws_none lt f (r ∷ rs) all = let here = all.0 in let ih = draws_none lt f rs all.1 in grind (arith, nat_tests)
 
 insert_front : (lt : LotRow → LotRow → Bool) (d : Draw) (ds : List Draw) → AllByRecursion (λ e. lt d.lot e.lot ≡ true) ds → insert_draw lt d ds ≡ d ∷ ds
 insert_front lt d [] all = refl
-insert_front lt d (e ∷ es) all = cond-true (lt d.lot e.lot) (d ∷ e ∷ es) (e ∷ insert_draw lt d es) all.0
+insert_front lt d (e ∷ es) all = let here = all.0 in cc
 
 -- x gives something, and comes before each other lot that does
 draws_first : (lt : LotRow → LotRow → Bool) (f : LotRow → ℕ) (ys : List LotRow) (x : LotRow) (zs : List LotRow) → (f x ≡ 0 → ⊥)
     → AllByRecursion (λ r. (f r ≡ 0 → ⊥) → (lt r x ≡ false) × (lt x r ≡ true)) (ys ++ zs)
     → draws_in_order lt f (ys ++ x ∷ zs) ≡ record { lot = x; units = f x } ∷ draws_in_order lt f (ys ++ zs)
 draws_first lt f [] x zs some all =
-    cond-false (eqb (f x) 0) (draws_in_order lt f zs) (insert_draw lt (record { lot = x; units = f x }) (draws_in_order lt f zs)) (ne_eqb (f x) 0 some)
-    ∙ insert_front lt (record { lot = x; units = f x }) (draws_in_order lt f zs)
-    (all_draws (λ e. lt x e.lot ≡ true) lt f zs (All-weaker (λ r. (f r ≡ 0 → ⊥) → (lt r x ≡ false) × (lt x r ≡ true)) (λ r. (f r ≡ 0 → ⊥) → lt x r ≡ true) (λ r h ne. (h ne).1) zs all))
+    let front = insert_front lt (record { lot = x; units = f x }) (draws_in_order lt f zs)
+    (all_draws (λ e. lt x e.lot ≡ true) lt f zs (All-weaker (λ r. (f r ≡ 0 → ⊥) → (lt r x ≡ false) × (lt x r ≡ true)) (λ r. (f r ≡ 0 → ⊥) → lt x r ≡ true) (λ r h ne. (h ne).1) zs all)) in
+    grind (arith, nat_tests)
 draws_first lt f (y ∷ ys) x zs some all =
-    let dx : Draw = record { lot = x; units = f x } in
-    let dy : Draw = record { lot = y; units = f y } in
-    let D = draws_in_order lt f (ys ++ zs) in
-    ap (λ (ds : List Draw). cond (eqb (f y) 0) ds (insert_draw lt dy ds)) (draws_first lt f ys x zs some all.1)
-    ∙ by_bool (eqb (f y) 0) (λ (b : Bool). cond b (dx ∷ D) (insert_draw lt dy (dx ∷ D)) ≡ dx ∷ cond b D (insert_draw lt dy D))
-    (λ _. refl)
-    (λ e. cond-false (lt y x) (dy ∷ dx ∷ D) (dx ∷ insert_draw lt dy D) (all.0 (eqb-false (f y) 0 e)).0)
+    let ih = draws_first lt f ys x zs some all.1 in
+    let after = all.0 in
+    grind (arith, nat_tests)
 
 -- what is left
-fewer_none : (r : LotRow) → with_fewer r 0 ≡ r
-fewer_none r = ap (λ (n : ℕ). record { key = r.key; units = n; serial = r.serial }) (sub-zero r.units)
-
 left_none : (f : LotRow → ℕ) (xs : List LotRow) → AllByRecursion (λ r. f r ≡ 0) xs → AllByRecursion (λ r. 1 ≤ r.units) xs → lots_left f xs ≡ xs
 left_none f [] none some = refl
 left_none f (r ∷ rs) none some =
     let z = none.0 in
     let l = some.0 in
-    cond-false (leb r.units (f r)) (lots_left f rs) (with_fewer r (f r) ∷ lots_left f rs) (lt-leb r.units (f r) (omega arith))
-    ∙ ap (λ (n : ℕ). with_fewer r n ∷ lots_left f rs) z
-    ∙ ap (λ (s : LotRow). s ∷ lots_left f rs) (fewer_none r)
-    ∙ ap (λ (ss : List LotRow). r ∷ ss) (left_none f rs none.1 some.1)
+    let ih = left_none f rs none.1 some.1 in
+    grind (arith, nat_tests)
 
 left_gone : (f : LotRow → ℕ) (ys : List LotRow) (x : LotRow) (zs : List LotRow) → x.units ≤ f x → lots_left f (ys ++ x ∷ zs) ≡ lots_left f (ys ++ zs)
-left_gone f [] x zs h = cond-true (leb x.units (f x)) (lots_left f zs) (with_fewer x (f x) ∷ lots_left f zs) (le-leb x.units (f x) h)
-left_gone f (y ∷ ys) x zs h = ap (λ (rs : List LotRow). cond (leb y.units (f y)) rs (with_fewer y (f y) ∷ rs)) (left_gone f ys x zs h)
+left_gone f [] x zs h = grind (arith, nat_tests)
+left_gone f (y ∷ ys) x zs h = let ih = left_gone f ys x zs h in cc
 
 left_part : (f : LotRow → ℕ) (ys : List LotRow) (x : LotRow) (zs : List LotRow) → f x < x.units → AllByRecursion (λ r. f r ≡ 0) (ys ++ zs) → AllByRecursion (λ r. 1 ≤ r.units) (ys ++ zs)
     → lots_left f (ys ++ x ∷ zs) ≡ ys ++ with_fewer x (f x) ∷ zs
 left_part f [] x zs h none some =
-    cond-false (leb x.units (f x)) (lots_left f zs) (with_fewer x (f x) ∷ lots_left f zs) (lt-leb x.units (f x) h)
-    ∙ ap (λ (ss : List LotRow). with_fewer x (f x) ∷ ss) (left_none f zs none some)
+    let rest = left_none f zs none some in
+    grind (arith, nat_tests)
 left_part f (y ∷ ys) x zs h none some =
     let z = none.0 in
     let l = some.0 in
-    let rest = lots_left f (ys ++ x ∷ zs) in
-    cond-false (leb y.units (f y)) rest (with_fewer y (f y) ∷ rest) (lt-leb y.units (f y) (omega arith))
-    ∙ ap (λ (n : ℕ). with_fewer y n ∷ rest) z
-    ∙ ap (λ (s : LotRow). s ∷ rest) (fewer_none y)
-    ∙ ap (λ (ss : List LotRow). y ∷ ss) (left_part f ys x zs h none.1 some.1)
+    let ih = left_part f ys x zs h none.1 some.1 in
+    grind (arith, nat_tests)
 
 -- x matches, and comes before each other lot that does
 pub record Leads (M : LotRow → Bool) (lt : LotRow → LotRow → Bool) (ys : List LotRow) (x : LotRow) (zs : List LotRow) : Type 0 where
@@ -94,40 +78,37 @@ module _ (M : LotRow → Bool) (lt : LotRow → LotRow → Bool) (ys : List LotR
   before_none =
       let f = units_if (λ y. M y && lt y x) in
       let s = sum_of_split f ys x zs in
-      let own : f x ≡ 0 = cond-false (M x && lt x x) x.units 0 (and_right (M x) (lt x x) leads.own) in
+      let own = leads.own in
       let rest = sum_of_zero_all f (ys ++ zs) (All-weaker (λ r. M r ≡ true → (lt r x ≡ false) × (lt x r ≡ true)) (λ r. f r ≡ 0)
-      (λ r h. by_bool (M r) (λ (b : Bool). (b ≡ true → (lt r x ≡ false) × (lt x r ≡ true)) → cond (b && lt r x) r.units 0 ≡ 0) (λ _ k. cond-false (lt r x) r.units 0 (k refl).0) (λ _ _. refl) h)
+      (λ r h. grind arith)
       (ys ++ zs) leads.others) in
-      omega arith
+      grind arith
 
   -- x comes before each other matching lot
   before_more : (r : LotRow) → lt x r ≡ true → units_before M lt (ys ++ x ∷ zs) r ≡ x.units + units_before M lt (ys ++ zs) r
   before_more r l =
       let f = units_if (λ y. M y && lt y r) in
       let s = sum_of_split f ys x zs in
-      let own : f x ≡ x.units = cond-true (M x && lt x r) x.units 0 (and_from (M x) (lt x r) leads.fits l) in
-      omega arith
+      let fits = leads.fits in
+      grind arith
 
   gives_x : (n : ℕ) → gives M lt n (ys ++ x ∷ zs) x ≡ min x.units n
-  gives_x n = let z = before_none in cond-true (M x) (min x.units (n - units_before M lt (ys ++ x ∷ zs) x)) 0 leads.fits ∙ omega arith
+  gives_x n = let z = before_none in let fits = leads.fits in grind arith
 
   gives_others : (n : ℕ) → x.units ≤ n → AllByRecursion (λ r. gives M lt n (ys ++ x ∷ zs) r ≡ gives M lt (n - x.units) (ys ++ zs) r) (ys ++ zs)
   gives_others n h = All-weaker (λ r. M r ≡ true → (lt r x ≡ false) × (lt x r ≡ true)) (λ r. gives M lt n (ys ++ x ∷ zs) r ≡ gives M lt (n - x.units) (ys ++ zs) r)
-      (λ r k. by_bool (M r) (λ (b : Bool). (b ≡ true → (lt r x ≡ false) × (lt x r ≡ true)) → cond b (min r.units (n - units_before M lt (ys ++ x ∷ zs) r)) 0 ≡ cond b (min r.units (n - x.units - units_before M lt (ys ++ zs) r)) 0)
-      (λ _ k. let m = before_more r (k refl).1 in omega arith) (λ _ _. refl) k)
+      (λ r k. let m = before_more r in grind arith)
       (ys ++ zs) leads.others
 
   gives_nothing : (n : ℕ) → n ≤ x.units → AllByRecursion (λ r. gives M lt n (ys ++ x ∷ zs) r ≡ 0) (ys ++ zs)
   gives_nothing n h = All-weaker (λ r. M r ≡ true → (lt r x ≡ false) × (lt x r ≡ true)) (λ r. gives M lt n (ys ++ x ∷ zs) r ≡ 0)
-      (λ r k. by_bool (M r) (λ (b : Bool). (b ≡ true → (lt r x ≡ false) × (lt x r ≡ true)) → cond b (min r.units (n - units_before M lt (ys ++ x ∷ zs) r)) 0 ≡ 0)
-      (λ _ k. let m = before_more r (k refl).1 in omega arith) (λ _ _. refl) k)
+      (λ r k. let m = before_more r in grind arith)
       (ys ++ zs) leads.others
 
   -- only a matching lot gives something
   ordered : (n : ℕ) → AllByRecursion (λ r. (gives M lt n (ys ++ x ∷ zs) r ≡ 0 → ⊥) → (lt r x ≡ false) × (lt x r ≡ true)) (ys ++ zs)
   ordered n = All-weaker (λ r. M r ≡ true → (lt r x ≡ false) × (lt x r ≡ true)) (λ r. (gives M lt n (ys ++ x ∷ zs) r ≡ 0 → ⊥) → (lt r x ≡ false) × (lt x r ≡ true))
-      (λ r k. by_bool (M r) (λ (b : Bool). (b ≡ true → (lt r x ≡ false) × (lt x r ≡ true)) → (cond b (min r.units (n - units_before M lt (ys ++ x ∷ zs) r)) 0 ≡ 0 → ⊥) → (lt r x ≡ false) × (lt x r ≡ true))
-      (λ _ k _. k refl) (λ _ _ ne. absurd (ne refl)) k)
+      (λ r k ne. (grind arith, grind arith))
       (ys ++ zs) leads.others
 
   -- x is drawn to its last unit
@@ -135,9 +116,9 @@ module _ (M : LotRow → Bool) (lt : LotRow → LotRow → Bool) (ys : List LotR
   draws_whole n some h =
       let f = gives M lt n (ys ++ x ∷ zs) in
       let g : f x ≡ x.units = let e = gives_x n in omega arith in
-      draws_first lt f ys x zs (λ z. omega arith) (ordered n)
-      ∙ ap (λ (m : ℕ). record { lot = x; units = m } ∷ draws_in_order lt f (ys ++ zs)) g
-      ∙ ap (λ (ds : List Draw). record { lot = x; units = x.units } ∷ ds) (draws_same lt f (gives M lt (n - x.units) (ys ++ zs)) (ys ++ zs) (gives_others n h))
+      let first = draws_first lt f ys x zs (λ z. omega arith) (ordered n) in
+      let rest = draws_same lt f (gives M lt (n - x.units) (ys ++ zs)) (ys ++ zs) (gives_others n h) in
+      cc
 
   pub left_whole : (n : ℕ) → x.units ≤ n → left_over M lt n (ys ++ x ∷ zs) ≡ left_over M lt (n - x.units) (ys ++ zs)
   left_whole n h =
@@ -149,9 +130,9 @@ module _ (M : LotRow → Bool) (lt : LotRow → LotRow → Bool) (ys : List LotR
   draws_part n some h =
       let f = gives M lt n (ys ++ x ∷ zs) in
       let g : f x ≡ n = let e = gives_x n in omega arith in
-      draws_first lt f ys x zs (λ z. omega arith) (ordered n)
-      ∙ ap (λ (m : ℕ). record { lot = x; units = m } ∷ draws_in_order lt f (ys ++ zs)) g
-      ∙ ap (λ (ds : List Draw). record { lot = x; units = n } ∷ ds) (draws_none lt f (ys ++ zs) (gives_nothing n (omega arith)))
+      let first = draws_first lt f ys x zs (λ z. omega arith) (ordered n) in
+      let rest = draws_none lt f (ys ++ zs) (gives_nothing n (omega arith)) in
+      cc
 
   pub left_in_part : (n : ℕ) → n < x.units → AllByRecursion (λ r. 1 ≤ r.units) (ys ++ zs) → left_over M lt n (ys ++ x ∷ zs) ≡ ys ++ with_fewer x n ∷ zs
   left_in_part n h some =
@@ -159,20 +140,15 @@ module _ (M : LotRow → Bool) (lt : LotRow → LotRow → Bool) (ys : List LotR
       let g : f x ≡ n = let e = gives_x n in omega arith in
       left_part f ys x zs (omega arith) (gives_nothing n (omega arith)) some ∙ ap (λ (m : ℕ). ys ++ with_fewer x m ∷ zs) g
 
-  -- what the others hold
-  pub matching_others : units_matching M (ys ++ x ∷ zs) ≡ x.units + units_matching M (ys ++ zs)
-  matching_others =
-      let s = sum_of_split (units_if M) ys x zs in
-      let own : units_if M x ≡ x.units = cond-true (M x) x.units 0 leads.fits in
-      omega arith
+-- nothing is asked, or nothing matches
+module _ (M : LotRow → Bool) (lt : LotRow → LotRow → Bool) (n : ℕ) (xs : List LotRow) (none : (n ≡ 0) ⊎ NoneMatch M xs (length xs)) where
+  gives_none : AllByRecursion (λ r. gives M lt n xs r ≡ 0) xs
+  gives_none = All-from_get_or (λ r. gives M lt n xs r ≡ 0) xs no_lot (λ i h.
+      let r = get_or xs i no_lot in
+      ⊎_elim (λ (z : n ≡ 0). grind arith) (λ (f : NoneMatch M xs (length xs)). let other = f i h in grind arith) none)
 
--- nothing is asked
-gives_zero : (M : LotRow → Bool) (lt : LotRow → LotRow → Bool) (xs ys : List LotRow) → AllByRecursion (λ r. gives M lt 0 xs r ≡ 0) ys
-gives_zero M lt xs [] = tt
-gives_zero M lt xs (r ∷ rs) = (by_bool (M r) (λ (b : Bool). cond b (min r.units (0 - units_before M lt xs r)) 0 ≡ 0) (λ _. omega arith) (λ _. refl), gives_zero M lt xs rs)
+  pub draws_nothing : draws M lt n xs ≡ []
+  draws_nothing = draws_none lt (gives M lt n xs) xs gives_none
 
-pub draws_zero : (M : LotRow → Bool) (lt : LotRow → LotRow → Bool) (xs : List LotRow) → draws M lt 0 xs ≡ []
-draws_zero M lt xs = draws_none lt (gives M lt 0 xs) xs (gives_zero M lt xs xs)
-
-pub left_zero : (M : LotRow → Bool) (lt : LotRow → LotRow → Bool) (xs : List LotRow) → AllByRecursion (λ r. 1 ≤ r.units) xs → left_over M lt 0 xs ≡ xs
-left_zero M lt xs some = left_none (gives M lt 0 xs) xs (gives_zero M lt xs xs) some
+  pub left_all : AllByRecursion (λ r. 1 ≤ r.units) xs → left_over M lt n xs ≡ xs
+  left_all = left_none (gives M lt n xs) xs gives_none

@@ -1,14 +1,14 @@
 -- Sums over lots and draws.
-use Rattle.std.proofs.Common.{◌≡◌, ℕ, ◌+◌, ◌-◌, ◌≤◌, min, Bool, true, false, cond, eqb, List, [], ◌∷◌, ◌++◌, length, sym, refl, ◌∙◌, arith}
+use Rattle.std.proofs.Common.{◌≡◌, ℕ, ◌+◌, ◌≤◌, Bool, true, false, cond, List, [], ◌∷◌, ◌++◌, length, sym, refl, ◌∙◌, arith}
 use Rattle.std.specs.List.{filter, sum_by}
 use Rattle.std.proofs.lemmas.List.Sums.{sum_by-cons, length-filter}
 use Rattle.std.proofs.lemmas.List.Recursion.{is_sum_by}
-use Rattle.std.proofs.lemmas.Bool.{eqb-true, cond_both}
+use Rattle.std.proofs.lemmas.Bool.Decides.{nat_tests}
 use Rattle.lots.specs.declared.rows.LotRow.{LotRow}
 use Rattle.matching.specs.declared.wanted.Draw.{Draw}
 use Rattle.matching.specs.Sums.{sum_of}
 use Rattle.matching.specs.Matching.{units_matching, lots_matching}
-use Rattle.matching.specs.Drawing.{units_before, gives, insert_draw, draws_in_order}
+use Rattle.matching.specs.Drawing.{gives, insert_draw, draws_in_order}
 
 -- cases on a test, wherever it stands in a goal
 pub by_bool : (b : Bool) (P : Bool → Type 0) → (b ≡ true → P true) → (b ≡ false → P false) → P b
@@ -27,7 +27,7 @@ pub sum_of_insert : (F : Draw → ℕ) (lt : LotRow → LotRow → Bool) (d : Dr
 sum_of_insert F lt d [] = refl
 sum_of_insert F lt d (e ∷ es) =
     let ih = sum_of_insert F lt d es in
-    cond_both (lt d.lot e.lot) (d ∷ e ∷ es) (e ∷ insert_draw lt d es) (λ xs. sum_of F xs ≡ F d + sum_of F (e ∷ es)) (λ _. refl) (λ _. omega arith)
+    grind arith
 
 pub sum_of_draws : (F : Draw → ℕ) (lt : LotRow → LotRow → Bool) (g : LotRow → ℕ) → ((r : LotRow) → g r ≡ 0 → F (record { lot = r; units = g r }) ≡ 0)
     → (lots : List LotRow) → sum_of F (draws_in_order lt g lots) ≡ sum_of (λ r. F (record { lot = r; units = g r })) lots
@@ -35,12 +35,12 @@ sum_of_draws F lt g none [] = refl
 sum_of_draws F lt g none (r ∷ rs) =
     let ih = sum_of_draws F lt g none rs in
     let d : Draw = record { lot = r; units = g r } in
-    cond_both (eqb (g r) 0) (draws_in_order lt g rs) (insert_draw lt d (draws_in_order lt g rs)) (λ xs. sum_of F xs ≡ sum_of (λ r. F (record { lot = r; units = g r })) (r ∷ rs))
-    (λ e. let z = none r (eqb-true (g r) 0 e) in omega arith)
-    (λ e. let p = sum_of_insert F lt d (draws_in_order lt g rs) in omega arith)
+    let z = none r in
+    let p = sum_of_insert F lt d (draws_in_order lt g rs) in
+    grind (arith, nat_tests)
 
 pub gives_most : (M : LotRow → Bool) (lt : LotRow → LotRow → Bool) (u : ℕ) (lots : List LotRow) (r : LotRow) → gives M lt u lots r ≤ r.units
-gives_most M lt u lots r = cond_both (M r) (min r.units (u - units_before M lt lots r)) 0 (λ n. n ≤ r.units) (λ _. omega arith) (λ _. omega arith)
+gives_most M lt u lots r = grind arith
 
 -- what a chain over the lots that match adds up and counts
 pub units_kept : (M : LotRow → Bool) (lots : List LotRow) → sum_by (λ r. r.units) (filter M lots) ≡ units_matching M lots
@@ -48,7 +48,8 @@ units_kept M [] = refl
 units_kept M (r ∷ rs) =
     let ih = units_kept M rs in
     let kept = filter M rs in
-    by_bool (M r) (λ b. sum_by (λ s. s.units) (cond b (r ∷ kept) kept) ≡ cond b r.units 0 + units_matching M rs) (λ _. omega (arith, sum_by-cons (λ s. s.units) r kept)) (λ _. omega arith)
+    let more = sum_by-cons (λ (s : LotRow). s.units) r kept in
+    grind arith
 
 pub lots_kept : (M : LotRow → Bool) (lots : List LotRow) → length (filter M lots) ≡ lots_matching M lots
 lots_kept M lots = length-filter M lots ∙ sym (is_sum_by (lots_matching M) (λ r. cond (M r) 1 0) refl (λ _ _. refl) lots)

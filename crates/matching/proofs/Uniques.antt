@@ -1,8 +1,8 @@
 -- `Drawn` leaves one answer.
-use Rattle.std.proofs.Common.{◌≡◌, ℕ, ◌-◌, ◌≤◌, min, Bool, true, false, cond, eqb, ◌⊎◌, List, [], ◌∷◌, sym, refl, ap, ◌∙◌, subst, inl, inr, ⊎_elim, arith}
+use Rattle.std.proofs.Common.{◌≡◌, ℕ, ◌-◌, ◌≤◌, min, Bool, true, false, cond, eqb, ◌⊎◌, List, [], ◌∷◌, sym, refl, ap, ◌∙◌, subst, inl, inr, arith}
 use Rattle.std.specs.List.{AllByRecursion}
 use Rattle.std.proofs.ByRecursion.{All-weaker}
-use Rattle.std.proofs.lemmas.Bool.{cond_both, cond-true, cond-false, both_ways, eq-eqb, ne_eqb}
+use Rattle.std.proofs.lemmas.Bool.Decides.{nat_tests}
 use Rattle.lots.specs.declared.rows.LotRow.{LotRow}
 use Rattle.matching.specs.declared.wanted.Draw.{Draw}
 use Rattle.matching.specs.Sums.{sum_of}
@@ -13,37 +13,26 @@ use Rattle.matching.proofs.Drawing.{all_member, all_from_member, insert, sorted,
 member_inserted : (lt : LotRow → LotRow → Bool) (r x : LotRow) (xs : List LotRow) → (r ≡ x) ⊎ Member xs x → Member (insert lt r xs) x
 member_inserted lt r x [] m = m
 member_inserted lt r x (y ∷ ys) m =
-    cond_both (lt r y) (r ∷ y ∷ ys) (y ∷ insert lt r ys) (λ zs. Member zs x) (λ _. m)
-    (λ _. ⊎_elim
-    (λ (q : r ≡ x). inr (member_inserted lt r x ys (inl q)))
-    (⊎_elim (λ (q : y ≡ x). inl q) (λ (q : Member ys x). inr (member_inserted lt r x ys (inr q))))
-    m)
+    let ih = member_inserted lt r x ys in
+    grind arith
 
 inserted_member : (lt : LotRow → LotRow → Bool) (r x : LotRow) (xs : List LotRow) → Member (insert lt r xs) x → (r ≡ x) ⊎ Member xs x
 inserted_member lt r x [] = λ m. m
-inserted_member lt r x (y ∷ ys) =
-    cond_both (lt r y) (r ∷ y ∷ ys) (y ∷ insert lt r ys) (λ zs. Member zs x → (r ≡ x) ⊎ Member (y ∷ ys) x) (λ _ m. m)
-    (λ _ m. ⊎_elim
-    (λ (q : y ≡ x). inr (inl q))
-    (λ (q : Member (insert lt r ys) x). ⊎_elim (λ (p : r ≡ x). inl p) (λ (p : Member ys x). inr (inr p)) (inserted_member lt r x ys q))
-    m)
+inserted_member lt r x (y ∷ ys) = let ih = inserted_member lt r x ys in grind arith
 
 member_sorted : (M : LotRow → Bool) (lt : LotRow → LotRow → Bool) (x : LotRow) (xs : List LotRow) → Member xs x → M x ≡ true → Member (sorted M lt xs) x
 member_sorted M lt x [] m f = absurd m
 member_sorted M lt x (r ∷ rs) m f =
-    cond_both (M r) (insert lt r (sorted M lt rs)) (sorted M lt rs) (λ zs. Member zs x)
-    (λ _. member_inserted lt r x (sorted M lt rs) (⊎_elim (λ (q : r ≡ x). inl q) (λ (q : Member rs x). inr (member_sorted M lt x rs q f)) m))
-    (λ e. ⊎_elim (λ (q : r ≡ x). absurd (both_ways (M x) (subst (λ (z : LotRow). M z ≡ false) q e) f)) (λ (q : Member rs x). member_sorted M lt x rs q f) m)
+    let ih = member_sorted M lt x rs in
+    let more = member_inserted lt r x (sorted M lt rs) in
+    grind arith
 
 sorted_member : (M : LotRow → Bool) (lt : LotRow → LotRow → Bool) (x : LotRow) (xs : List LotRow) → Member (sorted M lt xs) x → Member xs x × (M x ≡ true)
 sorted_member M lt x [] = λ m. absurd m
-sorted_member M lt x (r ∷ rs) =
-    cond_both (M r) (insert lt r (sorted M lt rs)) (sorted M lt rs) (λ zs. Member zs x → Member (r ∷ rs) x × (M x ≡ true))
-    (λ e m. ⊎_elim
-    (λ (q : r ≡ x). (inl q, subst (λ (z : LotRow). M z ≡ true) q e))
-    (λ (q : Member (sorted M lt rs) x). let h = sorted_member M lt x rs q in (inr h.0, h.1))
-    (inserted_member lt r x (sorted M lt rs) m))
-    (λ e m. let h = sorted_member M lt x rs m in (inr h.0, h.1))
+sorted_member M lt x (r ∷ rs) = λ m.
+    let ih = sorted_member M lt x rs in
+    let less = inserted_member lt r x (sorted M lt rs) in
+    (grind arith, grind arith)
 
 -- draws from lots in order, each to its last unit
 abbrev in_turn : ℕ → List LotRow → List Draw
@@ -52,7 +41,7 @@ in_turn u (z ∷ zs) = cond (eqb u 0) [] (record { lot = z; units = min z.units 
 
 in_turn_none : (u : ℕ) (zs : List LotRow) → u ≡ 0 → [] ≡ in_turn u zs
 in_turn_none u [] e = refl
-in_turn_none u (z ∷ zs) e = sym (cond-true (eqb u 0) [] (record { lot = z; units = min z.units u } ∷ in_turn (u - z.units) zs) (eq-eqb u 0 e))
+in_turn_none u (z ∷ zs) e = grind (arith, nat_tests)
 
 record From (zs : List LotRow) (d : Draw) : Type 0 where
   there : Member zs d.lot
@@ -66,27 +55,17 @@ record Fits (lt : LotRow → LotRow → Bool) (u : ℕ) (zs : List LotRow) (ds :
   emptied : AllByRecursion (λ d. (a : LotRow) → Member zs a → lt a d.lot ≡ true → Member ds (record { lot = a; units = a.units })) ds
 
 module _ (lt : LotRow → LotRow → Bool) (irr : (a : LotRow) → lt a a ≡ false) (trans : (a b c : LotRow) → lt a b ≡ true → lt b c ≡ true → lt a c ≡ true) where
-  never : (a b : LotRow) → lt a b ≡ true → a ≡ b → ⊥
-  never a b l e = both_ways (lt a a) (irr a) (subst (λ (z : LotRow). lt a z ≡ true) (sym e) l)
-
   -- a lot drawn first is the first of the lots
   first_lot : (z : LotRow) (zs : List LotRow) (d : Draw) (ds : List Draw) → Ordered lt (z ∷ zs) → AllByRecursion (λ e. lt d.lot e.lot ≡ true) ds → From (z ∷ zs) d
       → ((a : LotRow) → Member (z ∷ zs) a → lt a d.lot ≡ true → Member (d ∷ ds) (record { lot = a; units = a.units })) → z ≡ d.lot
   first_lot z zs d ds o later from emptied =
-      ⊎_elim
-      (λ (q : z ≡ d.lot). q)
-      (λ (q : Member zs d.lot).
-      let before = all_member (λ s. lt z s ≡ true) zs d.lot o.0 q in
-      ⊎_elim
-      (λ (p : d ≡ record { lot = z; units = z.units }). sym (ap (λ (e : Draw). e.lot) p))
-      (λ (p : Member ds (record { lot = z; units = z.units })).
-      let back = all_member (λ e. lt d.lot e.lot ≡ true) ds (record { lot = z; units = z.units }) later p in
-      absurd (both_ways (lt z z) (irr z) (trans z d.lot z before back)))
-      (emptied z (inl refl) before))
-      from.there
-
-  same_draw : (d : Draw) (z : LotRow) (n : ℕ) → z ≡ d.lot → d.units ≡ n → d ≡ record { lot = z; units = n }
-  same_draw d z n e f = λ i. record { lot = sym e i; units = f i }
+      let before = all_member (λ s. lt z s ≡ true) zs d.lot o.0 in
+      let back = all_member (λ e. lt d.lot e.lot ≡ true) ds (record { lot = z; units = z.units }) later in
+      let first = emptied z (inl refl) in
+      let own = irr z in
+      let t = trans z d.lot z in
+      let there = from.there in
+      grind arith
 
   fits_in_turn : (zs : List LotRow) (u : ℕ) (ds : List Draw) → Ordered lt zs → Fits lt u zs ds → ds ≡ in_turn u zs
   fits_in_turn [] u [] o f = refl
@@ -96,28 +75,31 @@ module _ (lt : LotRow → LotRow → Bool) (irr : (a : LotRow) → lt a a ≡ fa
       let from = f.each.0 in
       let lot = first_lot z zs d [] o tt from f.emptied.0 in
       let some = from.some in
-      let most : d.units ≤ z.units = subst (λ (r : LotRow). d.units ≤ r.units) (sym lot) from.most in
+      let most = from.most in
       let all = f.exactly in
-      let n : d.units ≡ min z.units u = omega arith in
-      ap (λ (e : Draw). e ∷ []) (same_draw d z (min z.units u) lot n)
-      ∙ ap (λ (es : List Draw). record { lot = z; units = min z.units u } ∷ es) (in_turn_none (u - z.units) zs (omega arith))
-      ∙ sym (cond-false (eqb u 0) [] (record { lot = z; units = min z.units u } ∷ in_turn (u - z.units) zs) (ne_eqb u 0 (λ q. omega arith)))
+      let rest = in_turn_none (u - z.units) zs in
+      grind (arith, nat_tests)
   fits_in_turn (z ∷ zs) u (d ∷ e ∷ es) o f =
       let from = f.each.0 in
       let later = f.order.0 in
       let lot = first_lot z zs d (e ∷ es) o later from f.emptied.0 in
       let after = subst (λ (r : LotRow). AllByRecursion (λ x. lt r x.lot ≡ true) (e ∷ es)) (sym lot) later in
       let whole : d ≡ record { lot = z; units = z.units } =
-      ⊎_elim (λ (p : d ≡ record { lot = z; units = z.units }). p)
-      (λ (p : Member (e ∷ es) (record { lot = z; units = z.units })). absurd (both_ways (lt z z) (irr z) (all_member (λ x. lt z x.lot ≡ true) (e ∷ es) (record { lot = z; units = z.units }) after p)))
-      (f.emptied.1.0 z (inl refl) after.0) in
-      let n : d.units ≡ z.units = ap (λ (x : Draw). x.units) whole in
+      let first = f.emptied.1.0 z (inl refl) after.0 in
+      let back = all_member (λ x. lt z x.lot ≡ true) (e ∷ es) (record { lot = z; units = z.units }) after in
+      let own = irr z in
+      grind arith in
+      let n : d.units ≡ z.units = cc in
       let all = f.exactly in
       let some = from.some in
       let narrowed : AllByRecursion (From zs) (e ∷ es) = all_from_member (From zs) (e ∷ es) (λ x m.
       let from_x = all_member (From (z ∷ zs)) (e ∷ es) x f.each.1 m in
       record {
-        there = ⊎_elim (λ (p : z ≡ x.lot). absurd (never z x.lot (all_member (λ y. lt z y.lot ≡ true) (e ∷ es) x after m) p)) (λ (p : Member zs x.lot). p) from_x.there;
+        there =
+            let there = from_x.there in
+            let before = all_member (λ y. lt z y.lot ≡ true) (e ∷ es) x after m in
+            let own = irr z in
+            grind arith;
         some = from_x.some;
         most = from_x.most;
       }) in
@@ -126,15 +108,15 @@ module _ (lt : LotRow → LotRow → Bool) (irr : (a : LotRow) → lt a a ≡ fa
         each = narrowed;
         order = f.order.1;
         emptied = All-weaker (λ x. (a : LotRow) → Member (z ∷ zs) a → lt a x.lot ≡ true → Member (d ∷ e ∷ es) (record { lot = a; units = a.units })) (λ x. (a : LotRow) → Member zs a → lt a x.lot ≡ true → Member (e ∷ es) (record { lot = a; units = a.units }))
-            (λ x g a there before. ⊎_elim
-            (λ (p : d ≡ record { lot = a; units = a.units }). absurd (never z a (all_member (λ s. lt z s ≡ true) zs a o.0 there) (lot ∙ ap (λ (y : Draw). y.lot) p)))
-            (λ (p : Member (e ∷ es) (record { lot = a; units = a.units })). p)
-            (g a (inr there) before))
+            (λ x g a there before.
+            let drawn = g a (inr there) before in
+            let first = all_member (λ s. lt z s ≡ true) zs a o.0 there in
+            let own = irr z in
+            grind arith)
             (e ∷ es) f.emptied.1;
       } in
-      ap (λ (x : Draw). x ∷ e ∷ es) (same_draw d z (min z.units u) lot (omega arith))
-      ∙ ap (λ (xs : List Draw). record { lot = z; units = min z.units u } ∷ xs) (fits_in_turn zs (u - z.units) (e ∷ es) o.1 rest)
-      ∙ sym (cond-false (eqb u 0) [] (record { lot = z; units = min z.units u } ∷ in_turn (u - z.units) zs) (ne_eqb u 0 (λ q. omega arith)))
+      let later = fits_in_turn zs (u - z.units) (e ∷ es) o.1 rest in
+      grind (arith, nat_tests)
 
   drawn_fits : (M : LotRow → Bool) (u : ℕ) (old new : List LotRow) (ds : List Draw) → Drawn M lt u old new ds → Fits lt u (sorted M lt old) ds
   drawn_fits M u old new ds D = record {

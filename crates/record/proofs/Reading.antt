@@ -1,24 +1,23 @@
 -- Fields read back from a record.
-use Rattle.std.proofs.Common.{◌≡◌, ℕ, ◌+◌, ◌*◌, ◌/◌, ◌%◌, ◌^◌, ◌<◌, ◌≤◌, List, ◌∷◌, ◌++◌, length, take, drop, ℤ, sym, ap, ◌∙◌, arith, w32, SFits, to_z, of_z}
-use native.Mathlib.Nat.{div-div-eq-div-mul, mod-add-div}
+use Rattle.std.proofs.Common.{◌≡◌, ℕ, ◌+◌, ◌^◌, ◌<◌, ◌≤◌, List, ◌∷◌, ◌++◌, length, take, drop, ℤ, sym, refl, ap, ◌∙◌, subst, arith, w32, SFits, to_z, of_z}
+use native.Mathlib.Nat.{div-div-eq-div-mul}
 use mir.Facts.{Fits-of_z}
 use Rattle.std.proofs.lemmas.List.{drop_at, drop-drop, append_assoc, length-append}
 use Rattle.std.proofs.lemmas.Int.{to_z-of_z}
+use Rattle.std.proofs.lemmas.Grind.{flat_map-append}
 use Rattle.record.specs.declared.header.Header.{Header}
 use Rattle.record.specs.declared.rows.Row.{Row}
 use Rattle.record.specs.Layout.{first_free, most_rows, le2, le4, row_bytes, rows_bytes, header_bytes}
 use Rattle.record.specs.Promises.{from_le, number_at, HeaderReads, RowReads, RowsRead, Sized, AllSized, SizedHeader}
-use Rattle.record.proofs.Written.{rows_bytes_length, rows_bytes_append}
+use Rattle.record.proofs.Written.{rows_bytes_length}
 
 le2_read : (n : ℕ) → n < 2 ^ 16 → from_le (le2 n) ≡ n
 le2_read n h = omega arith
 
 le4_read : (n : ℕ) → n < 2 ^ 32 → from_le (le4 n) ≡ n
 le4_read n h =
-    let one = mod-add-div n 256 in
-    let two : n / 256 % 256 + 256 * (n / 65536) ≡ n / 256 = rw (← div-div-eq-div-mul n 256 256) (mod-add-div (n / 256) 256) in
-    let three : n / 65536 % 256 + 256 * (n / 16777216) ≡ n / 65536 = rw (← div-div-eq-div-mul n 65536 256) (mod-add-div (n / 65536) 256) in
-    let four : n / 16777216 % 256 ≡ n / 16777216 = omega arith in
+    let two = div-div-eq-div-mul n 256 256 in
+    let three = div-div-eq-div-mul n 65536 256 in
     omega arith
 
 signed_read : (z : ℤ) → SFits w32 z → to_z w32 (from_le (le4 (of_z w32 z))) ≡ z
@@ -28,9 +27,6 @@ signed_read z h = ap (to_z w32) (le4_read (of_z w32 z) (Fits-of_z h).fits) ∙ t
 behind : (book front tail : List ℕ) (at k width : ℕ) → book ≡ front ++ tail → length front ≡ at → number_at book (at + k) width ≡ from_le (take width (drop k tail))
 behind book front tail at k width is size =
     ap (λ xs. from_le (take width xs)) (rw is (sym (drop-drop k at (front ++ tail)) ∙ ap (drop k) (drop_at front tail at size)))
-
-at_start : (book bytes : List ℕ) (k width : ℕ) → book ≡ bytes → number_at book k width ≡ from_le (take width (drop k bytes))
-at_start book bytes k width is = ap (λ xs. number_at xs k width) is
 
 pub row_reads : (book front tail : List ℕ) (at : ℕ) (r : Row) → book ≡ front ++ (row_bytes r ++ tail) → length front ≡ at → Sized r → RowReads book at r
 row_reads book front tail at r is size s =
@@ -53,20 +49,20 @@ row_reads book front tail at r is size s =
 
 pub header_reads : (book tail : List ℕ) (written : ℕ) (h : Header) → book ≡ header_bytes written h ++ tail → written ≤ most_rows → SizedHeader h → HeaderReads book written h
 header_reads book tail written h is few s =
-    let bytes = header_bytes written h ++ tail in
-    record {
-      edition = at_start book bytes 0 2 is;
-      policy = at_start book bytes 2 2 is ∙ le2_read h.policy s.policy;
-      transactions = at_start book bytes 4 4 is ∙ le4_read h.transactions s.transactions;
-      rows = at_start book bytes 8 4 is ∙ le4_read written (omega arith);
-      first_row = at_start book bytes 12 4 is;
-      first_free_byte = at_start book bytes 16 4 is ∙ le4_read (first_free written) (omega arith);
-      next_serial = at_start book bytes 20 4 is ∙ le4_read h.next s.next;
-    }
+    subst (λ (bytes : List ℕ). HeaderReads bytes written h) (sym is)
+    (record {
+      edition = refl;
+      policy = le2_read h.policy s.policy;
+      transactions = le4_read h.transactions s.transactions;
+      rows = le4_read written (omega arith);
+      first_row = refl;
+      first_free_byte = le4_read (first_free written) (omega arith);
+      next_serial = le4_read h.next s.next;
+    })
 
 pub rows_read : (written : ℕ) (rows : List Row) (front rest book : List ℕ) → book ≡ front ++ (rows_bytes rows ++ rest) → length front ≡ first_free written → AllSized rows
     → RowsRead book written rows
 rows_read written rows front rest book is size sized before r later split =
-    let around : book ≡ (front ++ rows_bytes before) ++ (row_bytes r ++ (rows_bytes later ++ rest)) = is ∙ rw (split, rows_bytes_append before (r ∷ later)) (simp append_assoc) in
+    let around : book ≡ (front ++ rows_bytes before) ++ (row_bytes r ++ (rows_bytes later ++ rest)) = is ∙ rw (split, flat_map-append row_bytes before (r ∷ later)) (simp append_assoc) in
     let long : length (front ++ rows_bytes before) ≡ first_free (written + length before) = omega (arith, length-append front (rows_bytes before), rows_bytes_length before) in
     row_reads book (front ++ rows_bytes before) (rows_bytes later ++ rest) (first_free (written + length before)) r around long (sized before r later split)

@@ -2,6 +2,7 @@
 use Rattle.std.proofs.Common.{◌≡◌, ℕ, ◌+◌, ◌*◌, ◌<◌, List, [], ◌∷◌, ◌++◌, length, get_or, take, drop, pos, sym, refl, ap, ◌∙◌, subst, arith}
 use borrow.Rule.Slice.PartMut.{put_mid}
 use Rattle.std.proofs.lemmas.List.{take_more, append_assoc, length-append, length-take-le, take_at, drop_at, drop-drop, get_or_at}
+use Rattle.std.proofs.lemmas.Grind.{flat_map-append}
 use Rattle.values.specs.declared.flag.Flag.TheVariants.{Complete}
 use Rattle.record.specs.declared.rows.RowKind.TheVariants.{Plain}
 use Rattle.record.specs.declared.rows.Row.{Row}
@@ -15,10 +16,6 @@ pub rows_bytes_length : (rows : List Row) → length (rows_bytes rows) ≡ row_l
 rows_bytes_length [] = refl
 rows_bytes_length (r ∷ rs) = let ih = rows_bytes_length rs in omega arith
 
-pub rows_bytes_append : (xs ys : List Row) → rows_bytes (xs ++ ys) ≡ rows_bytes xs ++ rows_bytes ys
-rows_bytes_append [] ys = refl
-rows_bytes_append (x ∷ xs) ys = ap (λ bs. row_bytes x ++ bs) (rows_bytes_append xs ys) ∙ sym (append_assoc (row_bytes x) (rows_bytes xs) (rows_bytes ys))
-
 -- `new` written over the k bytes behind `front`
 write_more : (front new d out : List ℕ) (n k m : ℕ) → length front ≡ n → k ≡ m → out ≡ front ++ drop n d → put_mid n k out new ≡ (front ++ new) ++ drop (n + m) d
 write_more front new d out n k m size width is =
@@ -29,7 +26,7 @@ pub rows_more : (rows : List Row) (i k : ℕ) (d out new : List ℕ) → i < len
     → out ≡ rows_bytes (take i rows) ++ drop (row_length * i) d → put_mid (row_length * i) k out new ≡ rows_bytes (take (i + 1) rows) ++ drop (row_length * (i + 1)) d
 rows_more rows i k d out new h width is was =
     let size : length (rows_bytes (take i rows)) ≡ row_length * i = rows_bytes_length (take i rows) ∙ ap (λ n. row_length * n) (length-take-le i rows (omega arith)) in
-    let next : rows_bytes (take (i + 1) rows) ≡ rows_bytes (take i rows) ++ row_bytes (get_or rows i no_row) = ap rows_bytes (take_more rows i no_row h) ∙ rows_bytes_append (take i rows) (get_or rows i no_row ∷ []) in
+    let next : rows_bytes (take (i + 1) rows) ≡ rows_bytes (take i rows) ++ row_bytes (get_or rows i no_row) = ap rows_bytes (take_more rows i no_row h) ∙ flat_map-append row_bytes (take i rows) (get_or rows i no_row ∷ []) in
     let on : row_length * (i + 1) ≡ row_length * i + row_length = omega arith in
     write_more (rows_bytes (take i rows)) new d out (row_length * i) k row_length size width was ∙ rw (is, next, on)
 

@@ -40,6 +40,7 @@ pub fn room_for(len: usize, rows: usize) -> Result<(), Refusal>
 }
 
 // Writes the rows behind those written before, and then the header; refused, not a byte.
+#[tactic(auto, using(crate::proofs::Parts::appended), unfolding(crate::specs::Layout::record_after))]
 pub fn append_rows(
     book: &mut [u8],
     written: u32,
@@ -52,18 +53,20 @@ pub fn append_rows(
 {
     let all = written as usize + rows.len();
     room_for(book.len(), all)?;
-    put_rows(book, first_free(written) as usize, rows);
-    put_header(book, all as u32, header);
+    // where there is room, a count of rows fits 16 bits
+    put_rows(book, first_free(written as u16) as usize, rows);
+    put_header(book, all as u16, header);
     Ok(())
 }
 
 // Writes the header alone; refused, not a byte.
+#[tactic(auto, using(crate::proofs::Parts::headed))]
 pub fn write_header(book: &mut [u8], written: u32, header: Header) -> Result<(), Refusal>
     ensures answer { result ≡ room_for (length book.old) written }
     ensures bytes { book.new ≡ if_ok result (header_after written header book.old) book.old }
     ensures headed { WhenOk result (Headed written header book.old book.new) }
 {
     room_for(book.len(), written as usize)?;
-    put_header(book, written, header);
+    put_header(book, written as u16, header);
     Ok(())
 }

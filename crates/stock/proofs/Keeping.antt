@@ -1,13 +1,12 @@
 -- What keeps so what always holds of the open lots.
-use Rattle.std.proofs.Common.{◌≡◌, ℕ, suc, ◌+◌, ◌<◌, ◌≤◌, true, ◌&&◌, leb, List, [], ◌∷◌, ◌++◌, length, get_or, take, drop, set, Some, sym, ap, ◌∙◌, subst, arith}
+use Rattle.std.proofs.Common.{◌≡◌, ℕ, suc, ◌+◌, ◌<◌, ◌≤◌, true, List, [], ◌∷◌, ◌++◌, length, get_or, take, drop, set, Some, sym, ap, ◌∙◌, subst, arith}
 use Rattle.std.specs.List.{remove, AllByRecursion}
 use Rattle.std.proofs.ByRecursion.{All-weaker, All-push}
-use Rattle.std.proofs.lemmas.Bool.{and_parts, leb-true}
 use Rattle.std.proofs.lemmas.Bool.Decides.{nat_tests}
 use Rattle.std.proofs.lemmas.List.{length_push}
 use Rattle.lots.specs.declared.rows.Key.{Key}
 use Rattle.lots.specs.declared.rows.LotRow.{LotRow}
-use Rattle.lots.specs.Rows.{most, in_range, same_key, no_lot, with_units, with_fewer, with_more, grown, shrunk}
+use Rattle.lots.specs.Rows.{in_range, same_key, no_lot, with_units, with_fewer, with_more, grown, shrunk}
 use Rattle.matching.proofs.Splits.{split_at, set_at, length_split, all_here, all_without, all_replaced, pairs_without, pairs_replaced, pairs_push}
 use Rattle.stock.specs.Tables.{Table}
 use Rattle.stock.specs.Kept.{WellKept}
@@ -21,7 +20,7 @@ key_itself k = grind (arith, nat_tests)
 
 -- each lot has some units
 pub some_units : (lots : List LotRow) → AllByRecursion (λ r. in_range r ≡ true) lots → AllByRecursion (λ r. 1 ≤ r.units) lots
-some_units lots all = All-weaker (λ r. in_range r ≡ true) (λ r. 1 ≤ r.units) (λ r e. leb-true 1 r.units (and_parts (leb 1 r.units) (leb r.units most && leb r.key.cost.number most) e).0) lots all
+some_units lots all = All-weaker (λ r. in_range r ≡ true) (λ r. 1 ≤ r.units) (λ r e. grind (arith, nat_tests)) lots all
 
 -- a lot is gone
 pub kept_without : (ys : List LotRow) (x : LotRow) (zs : List LotRow) (next : ℕ) → WellKept (record { lots = ys ++ x ∷ zs; next = next }) → WellKept (record { lots = ys ++ zs; next = next })

@@ -1,9 +1,9 @@
 -- What a purchase and a reduction promise, in words that say nothing of how they are carried out.
-use Rattle.std.specs.Prelude.{◌≡◌, ℕ, ◌+◌, ◌≤◌, cond, List, Some, None, Ok, Err, Option, Result}
+use Rattle.std.specs.Prelude.{◌≡◌, ℕ, ◌+◌, ◌≤◌, Bool, cond, List, Some, None, Ok, Err, Option, Result, nat_le}
 use Rattle.refusal.specs.declared.Refusal.{Refusal}
 use Rattle.refusal.specs.Table.{number_of}
 use Rattle.lots.specs.declared.rows.Key.{Key}
-use Rattle.lots.specs.Rows.{same_key}
+use Rattle.lots.specs.Rows.{most, same_key}
 use Rattle.lots.specs.Orders.{Order}
 use Rattle.matching.specs.declared.wanted.Wanted.{Wanted}
 use Rattle.matching.specs.declared.wanted.Draw.{Draw}
@@ -35,6 +35,10 @@ BringsUnits k n t (Err e, after) = Unit {0}
 abbrev pub DrawsEarliestFirst : Order → Wanted → ℕ → Table → Result (List Draw) Refusal × Table → Type 0
 DrawsEarliestFirst o w u t (Ok ds, after) = Drawn (matches w) (o.before u) u t.lots after.lots ds × (after.next ≡ t.next)
 DrawsEarliestFirst o w u t (Err e, after) = Unit {0}
+
+-- a draw has no more units than a lot can have
+abbrev pub draw_in_range : Draw → Bool
+draw_in_range d = nat_le d.units most
 
 -- where one lot matches and covers u, the reduction is accepted, whatever the policy
 abbrev pub AcceptedWithOneMatch : Wanted → ℕ → Table → Result (List Draw) Refusal → Type 0

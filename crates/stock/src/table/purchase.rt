@@ -1,6 +1,6 @@
 // Purchases.
-ghost use Rattle.std.specs.Prelude.{◌≡◌, ◌<◌, ◌≤◌, length, None};
-ghost use Rattle.stock.specs.Places.{OpenAt, grown_at, opened};
+ghost use Rattle.std.specs.Prelude.{◌≡◌, ◌+◌, ◌<◌, ◌≤◌, length, None};
+ghost use Rattle.stock.specs.Places.{OpenAt, opened};
 ghost use Rattle.stock.specs.Tables.{last_serial, purchased, purchased_late};
 ghost use Rattle.stock.specs.Promises.{BringsUnits, KeptIfRefused};
 
@@ -23,33 +23,30 @@ impl LotTable {
         ensures booked { self.old.next < last_serial → (result, self.new) ≡ purchased bought.now.key bought.now.units self.old }
         ensures out_of_serials { last_serial ≤ self.old.next → (result, self.new) ≡ purchased_late bought.now.key bought.now.units self.old }
         ensures brings_units { BringsUnits bought.now.key bought.now.units self.old (result, self.new) }
+        ensures one_lot_more { length self.new.lots ≤ length self.old.lots + 1 }
+        ensures one_serial_more { self.new.next ≤ self.old.next + 1 }
         ensures refusal_changes_nothing { KeptIfRefused self.old (result, self.new) }
     {
         let row = bought.row();
-        match place_of(self.lots(), row.key) {
-            Some(place) => self.grow(place, row.units),
-            None => self.start(bought),
-        }
-    }
-
-    // More units for the lot at a place.
-    fn grow(&mut self, place: usize, units: u32) -> Result<u32, Refusal>
-        requires { place < length self.old.lots }
-        ensures { (result, self.new) ≡ grown_at place units self.old }
-    {
-        let row = self
-            .lot_at(place)
-            .grow(units)
+        let Some(place) = place_of(self.lots(), row.key) else {
+            return self.start(bought);
+        };
+        // what stands in the table is within a lot's ranges
+        let grown = Lot::new(self.lots()[place])
+            .unwrap()
+            .grow(row.units)
             .ok_or(Refusal::LotTooLarge)?
             .row();
-        self.rows.put(place, row);
-        Ok(row.serial)
+        self.rows.put(place, grown);
+        Ok(grown.serial)
     }
 
     // A new lot. The highest number is no lot's serial, since the next serial has to fit too.
     fn start(&mut self, bought: &Lot) -> Result<u32, Refusal>
         requires { OpenAt bought.now.key self.old.lots None }
-        ensures { (result, self.new) ≡ opened bought.now.key bought.now.units self.old }
+        ensures opened { (result, self.new) ≡ opened bought.now.key bought.now.units self.old }
+        ensures one_lot_more { length self.new.lots ≤ length self.old.lots + 1 }
+        ensures one_serial_more { self.new.next ≤ self.old.next + 1 }
     {
         let serial = self.next;
         let next = serial.checked_add(1).ok_or(Refusal::TooManyLots)?;

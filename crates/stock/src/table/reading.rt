@@ -1,12 +1,10 @@
 // A new table, and what can be asked of one.
-ghost use Rattle.std.specs.Prelude.{◌≡◌, ◌<◌, length, slice_index_or};
-ghost use Rattle.lots.specs.Rows.{no_lot};
+ghost use Rattle.std.specs.Prelude.{◌≡◌};
 ghost use Rattle.stock.specs.Tables.{no_lots, lot_of_serial};
 ghost use Rattle.stock.specs.Kept.{WellKept};
 
 use super::LotTable;
 use bounded::list::Bounded;
-use lots::lot::Lot;
 use lots::rows::LotRow;
 
 impl LotTable {
@@ -50,13 +48,5 @@ impl LotTable {
         ensures { result ≡ lot_of_serial serial self.now.lots }
     {
         self.lots().iter().copied().find(|row| row.serial == serial)
-    }
-
-    // The lot at a place: its row, copied out and found within a lot's ranges.
-    pub(crate) fn lot_at(&self, place: usize) -> Lot
-        requires { place < length self.now.lots }
-        ensures { result ≡ slice_index_or self.now.lots place no_lot }
-    {
-        Lot::new(self.lots()[place]).unwrap()
     }
 }

@@ -1,15 +1,17 @@
 // Reductions.
-ghost use Rattle.std.specs.Prelude.{◌≡◌, ◌<◌, ◌≤◌, length};
-ghost use Rattle.matching.specs.Matching.{matches, units_matching};
+ghost use Rattle.std.specs.Prelude.{◌≡◌, ◌+◌, ◌≤◌, true, length, IfOk};
+ghost use Rattle.std.specs.List.{list_all};
+ghost use Rattle.matching.specs.Matching.{matches};
 ghost use Rattle.matching.specs.Drawing.{settled, draws_of};
 ghost use Rattle.matching.specs.Drawn.{TooFew, Unsettled};
 ghost use Rattle.stock.specs.Kept.{WellKept};
 ghost use Rattle.stock.specs.Tables.{reduced, table_after_reduction};
-ghost use Rattle.stock.specs.Places.{taken_at};
-ghost use Rattle.stock.specs.Promises.{DrawsEarliestFirst, RefusedExactly, AcceptedWithOneMatch, KeptIfRefused};
+ghost use Rattle.stock.specs.Places.{TakesFirst};
+ghost use Rattle.stock.specs.Promises.{DrawsEarliestFirst, draw_in_range, RefusedExactly, AcceptedWithOneMatch, KeptIfRefused};
 
 use super::{LotTable, MOST_LOTS};
 use bounded::list::Bounded;
+use lots::lot::Lot;
 use lots::policy::{Policy, Question};
 use matching::search::{lots_matching, units_matching};
 use matching::wanted::{Draw, Reduction};
@@ -20,9 +22,13 @@ pub type Draws = Bounded<Draw, MOST_LOTS>;
 
 impl LotTable {
     // Draws units from the matching lots in the policy's order, each to its last unit before the next; or refuses and changes nothing.
+    // Each lot that it draws from is emptied but the last, so that draws and open lots together grow by at most one.
+    #[tactic(auto, using(matching::proofs::Earliest::unsettled_from, matching::proofs::Earliest::unsettled_to))]
     pub fn reduce<P: Policy>(&mut self, asked: &Reduction<P>) -> Result<Draws, Refusal>
         ensures defined { (result, self.new) ≡ reduced (P.Policy.order asked.now.policy.now) asked.now.wanted asked.now.units self.old }
         ensures draws_earliest_first { DrawsEarliestFirst (P.Policy.order asked.now.policy.now) asked.now.wanted asked.now.units self.old (result, self.new) }
+        ensures draws_in_range { IfOk result (λ ds. list_all draw_in_range ds ≡ true) }
+        ensures grows_by_one { IfOk result (λ ds. length ds + length self.new.lots ≤ length self.old.lots + 1) }
         ensures too_few_is_22 { RefusedExactly 22 (TooFew (matches asked.now.wanted) asked.now.units self.old.lots) result }
         ensures unsettled_is_23 { RefusedExactly 23 (Unsettled (P.Policy.order asked.now.policy.now) (matches asked.now.wanted) asked.now.units self.old.lots) result }
         ensures one_match_is_settled { AcceptedWithOneMatch asked.now.wanted asked.now.units self.old result }
@@ -38,6 +44,7 @@ impl LotTable {
     }
 
     // Whether the policy settles, asked with the earliest of the matching lots.
+    #[tactic(auto, using(matching::proofs::Earliest::settled_none, matching::proofs::Earliest::settled_at))]
     fn is_settled<P: Policy>(&self, asked: &Reduction<P>) -> bool
         ensures { result ≡ settled (P.Policy.order asked.now.policy.now) (matches asked.now.wanted) asked.now.units self.now.lots }
     {
@@ -52,22 +59,17 @@ impl LotTable {
         }
     }
 
-    // The order is asked with all the units, also where some are drawn already: a lot is touched at most once,
-    // so those that are still there have the units that they had before.
+    // One lot after another gives, until nothing is left to ask or no wanted lot is left.
     fn draw<P: Policy>(&mut self, asked: &Reduction<P>) -> Draws
-        requires enough { asked.now.units ≤ units_matching (matches asked.now.wanted) self.old.lots }
-        requires kept { WellKept self.old }
         ensures drawn { result ≡ draws_of (P.Policy.order asked.now.policy.now) asked.now.wanted asked.now.units self.old.lots }
         ensures after { self.new ≡ table_after_reduction (P.Policy.order asked.now.policy.now) asked.now.wanted asked.now.units self.old }
+        ensures in_range { list_all draw_in_range result ≡ true }
+        ensures grows_by_one { length result + length self.new.lots ≤ length self.old.lots + 1 }
     {
         let mut draws = Bounded::new(Draw::default());
         let mut left = asked.units;
         // no chain: its end is what is drawn, and not a list's
-        while left > 0 {
-            let Some(place) = asked.earliest(self.lots()) else {
-                unreachable!()
-            };
-            let draw = self.take_from(place, left);
+        while let Some(draw) = self.take(asked, left) {
             left -= draw.units;
             let Ok(()) = draws.push(draw) else {
                 unreachable!()
@@ -76,29 +78,30 @@ impl LotTable {
         draws
     }
 
-    // The lot at a place gives what is asked, or all that it has; emptied, it is gone.
-    fn take_from(&mut self, place: usize, asked: u32) -> Draw
-        requires { place < length self.old.lots }
-        ensures taken { (result, self.new) ≡ taken_at place asked self.old }
-        ensures kept { WellKept self.new }
+    // The first of the wanted lots gives what is left to ask, or all that it has; emptied, it is gone.
+    // The order is asked with all the units, also where some are drawn already: a lot is touched at most once,
+    // so those that are still there have the units that they had before. `kept` tells the loop what the table keeps.
+    fn take<P: Policy>(&mut self, asked: &Reduction<P>, left: u32) -> Option<Draw>
+        ensures taken { TakesFirst (matches asked.now.wanted) ((P.Policy.order asked.now.policy.now).before asked.now.units) left self.old (result, self.new) }
+        ensures kept { WellKept self.old }
     {
-        let lot = self.lot_at(place);
+        let rows = self.lots();
+        if left == 0 {
+            return None;
+        }
+        let place = asked.earliest(rows)?;
+        let lot = Lot::new(rows[place]).unwrap();
         let row = lot.row();
-        match lot.shrink(asked) {
+        let units = match lot.shrink(left) {
             Some(rest) => {
                 self.rows.put(place, rest.row());
-                Draw {
-                    lot: row,
-                    units: asked,
-                }
+                left
             }
             None => {
                 self.rows.remove(place);
-                Draw {
-                    lot: row,
-                    units: row.units,
-                }
+                row.units
             }
-        }
+        };
+        Some(Draw { lot: row, units })
     }
 }

@@ -1,41 +1,44 @@
-use Rattle.std.proofs.Common.{◌≡◌, ◌≤◌, Some, None, ◌∙◌, rules}
-use Rattle.lots.specs.Rows.{most}
+use Rattle.std.proofs.Common.{◌≡◌, ◌+◌, ◌<◌, ◌≤◌, Some, None, Ok, length, get_or, rules}
+use Rattle.lots.specs.Rows.{most, no_lot, grown}
 use Rattle.stock.specs.Places.{OpenAt, grown_at}
-use Rattle.stock.specs.Tables.{purchased}
-use Rattle.stock.proofs.Purchases.{grown_is_purchased, grown_is_late, opened_is_purchased, opened_is_late, brings, opened_brings}
+use Rattle.stock.specs.Tables.{Table}
+use Rattle.stock.proofs.Keeping.{kept_set, grown_some}
+use Rattle.stock.proofs.Purchases.{grown_promised, opened_promised}
 use Rattle.stock.proofs.table.LotTable.purchase.Goals as goal
 
--- the lot of the key is open at this place, and has grown
-open_at : (c : goal.After-grow) → OpenAt c.args.bought.now.key c.args.self.now.lots (Some c.in-Some.place)
-open_at c = search rules
+pub returns-in_default : goal.returns-in_default
+returns-in_default c =
+    let b = c.args.bought.now in
+    let none : OpenAt b.key c.args.self.now.lots None = search rules in
+    let small : b.units ≤ most = search rules in
+    let p = opened_promised b.key b.units c.args.self.now (c.start.result, c.start.new.self) small none c.start.ensures.opened in
+    record { booked = p.0; out_of_serials = p.1; brings_units = p.2; one_lot_more = search rules; one_serial_more = search rules; refusal_changes_nothing = search rules }
 
-grew : (c : goal.After-grow) → (c.grow.result, c.grow.new.self) ≡ grown_at c.in-Some.place c.args.bought.now.units c.args.self.now
-grew c = search rules
+pub returns-in_err-ok_or : goal.returns-in_err-ok_or
+returns-in_err-ok_or c =
+    let b = c.args.bought.now in
+    let t = c.args.self.now in
+    let here : OpenAt b.key t.lots (Some c.in-Some.place) = search rules in
+    let grew : (c.from_residual.result, t) ≡ grown_at c.in-Some.place b.units t = search rules in
+    let p = grown_promised b.key b.units t (c.from_residual.result, t) c.lots.ensures.kept c.in-Some.place here grew in
+    record { booked = p.0; out_of_serials = p.1; brings_units = p.2; one_lot_more = search rules; one_serial_more = search rules; refusal_changes_nothing = search rules }
 
-booked : (c : goal.After-grow) → (c.grow.result, c.grow.new.self) ≡ purchased c.args.bought.now.key c.args.bought.now.units c.args.self.now
-booked c = grew c ∙ grown_is_purchased c.args.bought.now.key c.args.bought.now.units c.args.self.now c.lots.ensures.kept c.in-Some.place (open_at c)
+pub invariant_of-self : goal.invariant_of-self
+invariant_of-self c =
+    let rows = c.self.inside.rows in
+    let i = c.in-Some.place in
+    let n = c.row-row.result.units in
+    let x = get_or rows i no_lot in
+    let within : i < length rows = search rules in
+    let some : Some c.row-grown.result ≡ grown x n = search rules in
+    rw c.put.ensures (kept_set (record { lots = rows; next = c.self.inside.next }) i (x.units + n) c.row-grown.result within (grown_some x c.row-grown.result n some) c.row-grown.ensures.ranges c.self.invariant)
 
-pub returns-in-Some-clause-booked : goal.returns-in-Some-clause-booked
-returns-in-Some-clause-booked c = λ _. booked c
-
-pub returns-in-Some-clause-out_of_serials : goal.returns-in-Some-clause-out_of_serials
-returns-in-Some-clause-out_of_serials c = λ _. grew c ∙ grown_is_late c.args.bought.now.key c.args.bought.now.units c.args.self.now c.lots.ensures.kept c.in-Some.place (open_at c)
-
-pub returns-in-Some-clause-brings_units : goal.returns-in-Some-clause-brings_units
-returns-in-Some-clause-brings_units c = brings c.args.bought.now.key c.args.bought.now.units c.args.self.now (c.grow.result, c.grow.new.self) (booked c)
-
--- no lot of the key is open
-none_open : (c : goal.After-start) → OpenAt c.args.bought.now.key c.args.self.now.lots None
-none_open c = search rules
-
-small : (c : goal.After-start) → c.args.bought.now.units ≤ most
-small c = search rules
-
-pub returns-in-None-clause-booked : goal.returns-in-None-clause-booked
-returns-in-None-clause-booked c = λ low. c.start.ensures ∙ opened_is_purchased c.args.bought.now.key c.args.bought.now.units c.args.self.now (small c) (none_open c) low
-
-pub returns-in-None-clause-out_of_serials : goal.returns-in-None-clause-out_of_serials
-returns-in-None-clause-out_of_serials c = λ high. c.start.ensures ∙ opened_is_late c.args.bought.now.key c.args.bought.now.units c.args.self.now (small c) (none_open c) high
-
-pub returns-in-None-clause-brings_units : goal.returns-in-None-clause-brings_units
-returns-in-None-clause-brings_units c = opened_brings c.args.bought.now.key c.args.bought.now.units c.args.self.now (small c) (none_open c) (c.start.result, c.start.new.self) c.start.ensures
+pub returns : goal.returns
+returns c =
+    let b = c.args.bought.now in
+    let t = c.args.self.now in
+    let after : Table = record { lots = c.put.new.self; next = c.self.inside.next } in
+    let here : OpenAt b.key t.lots (Some c.in-Some.place) = search rules in
+    let grew : (Ok c.row-grown.result.serial, after) ≡ grown_at c.in-Some.place b.units t = search rules in
+    let p = grown_promised b.key b.units t (Ok c.row-grown.result.serial, after) c.lots.ensures.kept c.in-Some.place here grew in
+    record { booked = p.0; out_of_serials = p.1; brings_units = p.2; one_lot_more = search rules; one_serial_more = search rules; refusal_changes_nothing = tt }
