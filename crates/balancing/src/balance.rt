@@ -8,19 +8,18 @@ use crate::unbalanced::{Unbalanced, unbalanced_in};
 use booking::entries::Entries;
 use booking::entry::Entry;
 use booking::posting::Posting;
-use lots::lot::MOST;
 use refusal::Refusal;
+use values::amount::Amount;
 
-// A sum of weights divided by -100, if that is whole and an amount: one is no larger in size than the most units of a lot.
+// A sum of weights divided by -100, if that is whole and an amount.
 fn amount_for(sum: i128) -> Option<i32>
     ensures { result ≡ amount_for sum }
 {
-    let size = sum.unsigned_abs();
-    if size % 100 != 0 || size / 100 > u128::from(MOST) {
+    if sum % 100 != 0 {
         return None;
     }
-    let amount = (size / 100) as i32;
-    if sum < 0 { Some(amount) } else { Some(-amount) }
+    let amount = Amount::new(i32::try_from(sum / -100).ok()?)?;
+    Some(amount.hundredths())
 }
 
 fn has_blank(entries: &[Entry]) -> bool

@@ -1,6 +1,6 @@
 -- One posting more of a draft.
-use Rattle.std.proofs.Common.{◌≡◌, ℕ, ◌+◌, ◌<◌, List, ◌++◌, length, get_or, drop, Some, None, Ok, Option, Result, sym, ◌∙◌}
-use Rattle.std.proofs.lemmas.List.{append_assoc, at_drop_more}
+use Rattle.std.proofs.lemmas.Grind.{common_steps}
+use Rattle.std.proofs.Common.{arith, ◌≡◌, ℕ, ◌+◌, ◌<◌, List, ◌++◌, length, get_or, drop, Some, None, Ok, Option, Result}
 use Rattle.refusal.specs.declared.Refusal.{Refusal}
 use Rattle.refusal.specs.declared.Fault.{Fault}
 use Rattle.lots.specs.Orders.{Order}
@@ -8,7 +8,7 @@ use Rattle.stock.specs.Tables.{Table}
 use Rattle.booking.specs.declared.posting.Posting.{Posting}
 use Rattle.booking.specs.declared.posting.PostingKind.TheVariants.{Blank}
 use Rattle.booking.specs.declared.entry.Entry.{Entry}
-use Rattle.booking.specs.Postings.{table_after_posting, entries_of_posting, posting_refusal}
+use Rattle.booking.specs.Postings.{table_after_posting, entries_of_posting}
 use Rattle.booking.specs.Booking.{at_line, or_else, table_after, entries_of, first_fault}
 use Rattle.booking.specs.Stages.{unless, book_posting, book_postings}
 
@@ -26,15 +26,10 @@ module _ (o : Order) (day : ℕ) (b : Table × List Entry) where
 
     after_accepted : (q : Option Refusal) (c : Table × List Entry) → Ok c ≡ unless (at_line p.line q) (t', b.1 ++ given)
         → book_postings o day c ps ≡ unless (or_else (at_line p.line q) (first_fault o day t' ps)) (table_after o day t' ps, b.1 ++ (given ++ entries_of o day t' ps))
-    after_accepted None c e =
-        let same : c ≡ (t', b.1 ++ given) = cc in
-        let all = append_assoc b.1 given (entries_of o day t' ps) in
-        cc
+    after_accepted None c e = grind (arith, common_steps)
     after_accepted (Some r) c e = cc
 
   -- the posting at place i is booked, and what is left gives the rest
   module _ (ps : List Posting) (i : ℕ) (within : i < length ps) (all : Result (Table × List Entry) Fault) (was : book_postings o day b (drop i ps) ≡ all) where
     pub booked_more : (c : Table × List Entry) → Ok c ≡ book_posting o day (get_or ps i no_posting) b → book_postings o day c (drop (i + 1) ps) ≡ all
-    booked_more c e =
-        after_accepted (get_or ps i no_posting) (drop (i + 1) ps) (posting_refusal o day b.0 (get_or ps i no_posting)) c e
-        ∙ sym (at_drop_more (book_postings o day b) ps i no_posting within) ∙ was
+    booked_more c e = grind (arith, common_steps)

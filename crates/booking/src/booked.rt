@@ -44,9 +44,7 @@ impl Booked {
         requires ranged { entry_kind_in_range kind ≡ true }
         ensures { self.new ≡ (self.old.0, self.old.1 ++ (entry line kind ∷ [])) }
     {
-        let Ok(()) = self.entries.push(Entry { line, kind }) else {
-            unreachable!()
-        };
+        self.entries.push(Entry { line, kind }).unwrap();
     }
 
     // One entry more for each draw.
@@ -67,13 +65,12 @@ impl Booked {
         ensures defined { map_ok (λ _. self.new) result ≡ book_purchase line key units self.old }
         ensures grows { Grows self.old self.new }
     {
-        let Some(bought) = Lot::new(LotRow {
+        let bought = Lot::new(LotRow {
             key,
             units,
             serial: 0,
-        }) else {
-            unreachable!()
-        };
+        })
+        .unwrap();
         let serial = self.lots.purchase(&bought)?;
         self.enter(line, EntryKind::Bought { key, units, serial });
         Ok(())

@@ -75,9 +75,7 @@ impl Entries {
             flag: transaction.flag,
         });
         for entry in self.as_slice() {
-            let Ok(()) = rows.push(entry.row(transaction)) else {
-                unreachable!()
-            };
+            rows.push(entry.row(transaction)).unwrap();
         }
         rows
     }

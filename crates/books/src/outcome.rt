@@ -1,6 +1,7 @@
 // What calls and questions answer.
 use refusal::Fault;
 
+// No `Result`: what calls answer one after another is one list, and definitions and the law go by these cases.
 #[derive(Clone, Copy, PartialEq, Eq, Debug)]
 pub enum Outcome {
     // The number of the commodity, and of the account, from 1.

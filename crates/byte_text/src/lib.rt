@@ -2,7 +2,6 @@
 #![tactic(auto)]
 
 ghost use Rattle.std.specs.Prelude.{◌≡◌, ◌-◌, ◌≤◌, min, length, take, drop, slice_index};
-ghost use Rattle.std.specs.Str.{bytes_eq};
 ghost use Rattle.byte_text.specs.Classes.{in_class, run_length, all_in};
 
 // The classes of bytes that the journal's grammar speaks of.
@@ -67,11 +66,4 @@ pub fn all_of(class: ByteClass, text: &[u8]) -> bool
     ensures { result ≡ all_in class text.now }
 {
     text.iter().all(|b| class.has(*b))
-}
-
-// Whether two texts are equal: `==`, under the name that contracts above cite.
-pub fn same(text: &[u8], word: &[u8]) -> bool
-    ensures { result ≡ bytes_eq text.now word.now }
-{
-    text == word
 }

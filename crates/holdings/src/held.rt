@@ -125,23 +125,15 @@ impl Holdings {
         }
     }
 
-    // The holdings of those of at most 64 accounts, counted from 1, that lie under a name.
-    fn sum_under(&self, accounts: &[Account], name: &[u8], commodity: u8) -> i64
-        requires { length accounts.now ≤ 64 }
-        ensures { result ≡ holdings_under self.now name.now commodity 1 accounts.now }
-    {
-        let mut sum = 0;
-        // no `sum`: it would owe that each sum on the way fits, which hangs on how many accounts there are
-        for (number, account) in (1u16..).zip(accounts) {
-            sum += self.holding_if_under(account, number, name, commodity);
-        }
-        sum
-    }
-
     // The holdings, in a commodity, of the accounts of a chart that lie under a name.
     pub fn holdings_under(&self, chart: &Chart, name: &[u8], commodity: u8) -> i64
         ensures { result ≡ holdings_under self.now name.now commodity 1 chart.now.accounts }
     {
-        self.sum_under(chart.account_list(), name, commodity)
+        let mut sum = 0;
+        // no `sum`: it would owe that each sum on the way fits, which hangs on how many accounts there are
+        for (number, account) in (1u16..).zip(chart.account_list()) {
+            sum += self.holding_if_under(account, number, name, commodity);
+        }
+        sum
     }
 }

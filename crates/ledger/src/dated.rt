@@ -1,6 +1,7 @@
 // What all dated calls share: the first and the last of their common tests, and what they leave. Each call says all its tests, in
 // the order of the list of refusals, for a reader to compare; one function, with a closure for those between, would hide that order.
-// A call's source and date are no struct: a caller hands over each by its own name, beside the call's other figures.
+// A call's source and date are no struct: a caller hands over each by its own name, beside the call's other figures. Nor are date
+// and rank: the rank of a call is a constant, which a struct would only hide in what makes it.
 ghost use Rattle.std.specs.Prelude.{◌≡◌};
 ghost use Rattle.refusal.specs.declared.Refusal.TheVariants.{DraftUnderWay, GoesBack};
 ghost use Rattle.books.specs.Checks.{Checks};

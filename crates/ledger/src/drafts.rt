@@ -27,8 +27,7 @@ impl<P: Policy> Ledger<P> {
     {
         self.check_no_draft()?;
         check_date(date)?;
-        self.check_forward(date, Rank::Transacting)?;
-        Ok(())
+        self.check_forward(date, Rank::Transacting)
     }
 
     fn start_draft(&mut self, source: u32, date: u32, flag: Flag) -> Slip

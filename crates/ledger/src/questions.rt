@@ -5,7 +5,9 @@ ghost use Rattle.books.specs.Refusals.{first_fault_met};
 ghost use Rattle.books.specs.Questions.{answer_unless, question_tests, holding_of, plain_balance_of, counts_of, lot_of};
 
 use crate::Ledger;
+use crate::fault::reported;
 use books::outcome::Counts;
+use drafting::checks::refuse_unless;
 use lots::policy::Policy;
 use lots::rows::LotRow;
 use refusal::{Fault, Refusal};
@@ -15,18 +17,15 @@ impl<P: Policy> Ledger<P> {
     fn has(&self, account: u16, commodity: u8) -> bool
         ensures { result ≡ not (nothing_there self.now.state.names account commodity) }
     {
-        let opened = 1 <= account && account as usize <= self.chart.accounts();
-        opened && 1 <= commodity && commodity as usize <= self.chart.commodities()
+        let opened = (1..=self.chart.accounts()).contains(&usize::from(account));
+        opened && (1..=self.chart.commodities()).contains(&usize::from(commodity))
     }
 
     fn check_there(&self, account: u16, commodity: u8) -> Result<(), Fault>
         ensures { result ≡ answer_unless (first_fault_met (question_tests self.now.state account commodity)) tt }
     {
-        if self.has(account, commodity) {
-            Ok(())
-        } else {
-            Err(Refusal::NothingThere.on(0))
-        }
+        let there = refuse_unless(self.has(account, commodity), Refusal::NothingThere);
+        reported(0, there)
     }
 
     // The plain balance and the units of the open lots.

@@ -9,7 +9,7 @@ ghost use Rattle.lines.specs.Directives.{commodity_from, own_from, open_from, cl
 use crate::cursor::Cursor;
 use crate::directive::{Directive, Method};
 use crate::fault::LineFault;
-use byte_text::{byte_at, same};
+use byte_text::byte_at;
 use fields::date::read_date;
 use fields::field::Field;
 use fields::name::{read_account_name, read_commodity_name};
@@ -168,7 +168,7 @@ fn read_option<'a>(mut line: Cursor<'a>) -> Result<Directive<'a>, LineFault>
     ensures { map_ok said result ≡ option_from line.entry.bytes.now line.entry.at }
 {
     let name = line.next_quoted()?;
-    if !same(name.text, b"booking_method") {
+    if name.text != b"booking_method".as_slice() {
         return Err(LineFault::Form(name.place));
     }
     read_method(line)
@@ -183,7 +183,7 @@ pub(crate) fn read_directive<'a>(line: &'a [u8], number: u32) -> Result<Directiv
         return read_dated(line);
     }
     let mut line = Cursor::start(line);
-    if number == 1 && same(line.next_field().text, b"option") {
+    if number == 1 && line.next_field().text == b"option".as_slice() {
         return read_option(line);
     }
     Err(LineFault::Form(1))

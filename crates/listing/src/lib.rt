@@ -1,4 +1,4 @@
-// How programs print amounts, dates, lines and refusals.
+// How programs print amounts, dates and lines.
 #![tactic(auto)]
 
 use fields::field::Field;
@@ -7,35 +7,6 @@ use std::fmt;
 use values::amount::Amount;
 use values::date::Date;
 use values::flag::Flag;
-
-// An amount in hundredths, with two decimals; a plain figure, since what is printed need not be an `Amount`.
-#[derive(Clone, Copy)]
-pub struct Decimal(pub i32);
-
-impl fmt::Display for Decimal {
-    fn fmt<W: fmt::Write>(&self, f: &mut fmt::Formatter<W>) -> fmt::Result {
-        let sign = if self.0 < 0 { "-" } else { "" };
-        let size = self.0.unsigned_abs();
-        write!(f, "{sign}{}.{:02}", size / 100, size % 100)
-    }
-}
-
-// A date by its number, as YYYY-MM-DD.
-#[derive(Clone, Copy)]
-pub struct Day(pub u32);
-
-impl fmt::Display for Day {
-    fn fmt<W: fmt::Write>(&self, f: &mut fmt::Formatter<W>) -> fmt::Result {
-        let number = self.0;
-        write!(
-            f,
-            "{:04}-{:02}-{:02}",
-            number / 10_000,
-            number / 100 % 100,
-            number % 100
-        )
-    }
-}
 
 // A part of a line, or the whole of it, as it is listed. A type around the others, since only a type of one's own can be given
 // a `Display`, and how programs print is no matter of the crates that read.
@@ -51,15 +22,27 @@ impl fmt::Display for Listed<&[u8]> {
     }
 }
 
+// With two decimals.
 impl fmt::Display for Listed<Amount> {
     fn fmt<W: fmt::Write>(&self, f: &mut fmt::Formatter<W>) -> fmt::Result {
-        write!(f, "{}", Decimal(self.0.hundredths()))
+        let hundredths = self.0.hundredths();
+        let sign = if hundredths < 0 { "-" } else { "" };
+        let size = hundredths.unsigned_abs();
+        write!(f, "{sign}{}.{:02}", size / 100, size % 100)
     }
 }
 
+// As YYYY-MM-DD.
 impl fmt::Display for Listed<Date> {
     fn fmt<W: fmt::Write>(&self, f: &mut fmt::Formatter<W>) -> fmt::Result {
-        write!(f, "{}", Day(self.0.number()))
+        let number = self.0.number();
+        write!(
+            f,
+            "{:04}-{:02}-{:02}",
+            number / 10_000,
+            number / 100 % 100,
+            number % 100
+        )
     }
 }
 

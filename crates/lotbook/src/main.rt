@@ -113,6 +113,7 @@ impl Account {
             return self.list_refusal(out, fault);
         }
         let mut rest = journal;
+        // no `for`: an iterator of one's own over the lines would be longer than this loop
         while let Some(cut) = split_line(rest) {
             self.list_line(out, cut.line)?;
             rest = cut.rest;

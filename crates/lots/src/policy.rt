@@ -21,7 +21,8 @@ pub trait Named {
     const NAME: &'static str;
 }
 
-// Being asked changes nothing. What a policy answers is its value's meaning, which keeps the laws.
+// Being asked changes nothing. What a policy answers is its value's meaning, which keeps the laws. No method has a default, though
+// some impls are alike: what it promises hangs on the impl's order, so its proof would need a law more, and ask more of hosts.
 pub trait Policy: Named {
     ghost order: { Self → Order };
 

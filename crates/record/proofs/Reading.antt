@@ -1,6 +1,6 @@
 -- Fields read back from a record.
+use Rattle.std.proofs.lemmas.Bool.Decides.{nat_tests}
 use Rattle.std.proofs.Common.{◌≡◌, ℕ, ◌+◌, ◌^◌, ◌<◌, ◌≤◌, List, ◌∷◌, ◌++◌, length, take, drop, ℤ, sym, refl, ap, ◌∙◌, subst, arith, w32, SFits, to_z, of_z}
-use native.Mathlib.Nat.{div-div-eq-div-mul}
 use mir.Facts.{Fits-of_z}
 use Rattle.std.proofs.lemmas.List.{drop_at, drop-drop, append_assoc, length-append}
 use Rattle.std.proofs.lemmas.Int.{to_z-of_z}
@@ -15,10 +15,7 @@ le2_read : (n : ℕ) → n < 2 ^ 16 → from_le (le2 n) ≡ n
 le2_read n h = omega arith
 
 le4_read : (n : ℕ) → n < 2 ^ 32 → from_le (le4 n) ≡ n
-le4_read n h =
-    let two = div-div-eq-div-mul n 256 256 in
-    let three = div-div-eq-div-mul n 65536 256 in
-    omega arith
+le4_read n h = grind (arith, nat_tests)
 
 signed_read : (z : ℤ) → SFits w32 z → to_z w32 (from_le (le4 (of_z w32 z))) ≡ z
 signed_read z h = ap (to_z w32) (le4_read (of_z w32 z) (Fits-of_z h).fits) ∙ to_z-of_z w32 z h

@@ -1,13 +1,13 @@
 -- One draw after another gives what the closed form says.
+use Rattle.std.proofs.lemmas.Grind.{common_steps}
 use Rattle.std.proofs.Common.{◌≡◌, ℕ, suc, ◌+◌, ◌-◌, ◌<◌, ◌≤◌, Bool, true, leb, ◌⊎◌, List, [], ◌∷◌, ◌++◌, length, get_or, take, drop, set, sym, ap, ◌∙◌, subst, inl, append_assoc, arith}
 use Rattle.std.specs.List.{remove, list_all, AllByRecursion}
 use Rattle.std.proofs.lemmas.List.{append-nil, length_push, length-set}
-use Rattle.std.proofs.lemmas.List.Folds.{list_all-append}
 use Rattle.std.proofs.ByRecursion.{All-get_or, All-set}
 use Rattle.std.proofs.lemmas.Bool.{cond_both, leb-true, leb-false}
 use Rattle.std.proofs.lemmas.Bool.Decides.{nat_tests}
 use Rattle.lots.specs.declared.rows.LotRow.{LotRow}
-use Rattle.lots.specs.Rows.{in_range, no_lot, with_fewer}
+use Rattle.lots.specs.Rows.{no_lot, with_fewer}
 use Rattle.lots.specs.Orders.{Order, Keeps}
 use Rattle.matching.specs.declared.wanted.Draw.{Draw}
 use Rattle.matching.specs.Places.{NoneMatch, EarliestAt}
@@ -47,19 +47,10 @@ module _ (o : Order) (keeps : Keeps o) (M : LotRow → Bool) (u : ℕ) (old now 
     units_x = All-get_or (λ r. 1 ≤ r.units) now.lots i no_lot e.within some
 
     drawn_in_range : (n : ℕ) → n ≤ x.units → list_all draw_in_range (ds ++ record { lot = x; units = n } ∷ []) ≡ true
-    drawn_in_range n h =
-        let d : Draw = record { lot = x; units = n } in
-        let r = All-get_or (λ r. in_range r ≡ true) now.lots i no_lot e.within kept.ranges in
-        let so_far = w.in_range in
-        let both = list_all-append draw_in_range ds (d ∷ []) in
-        grind (arith, nat_tests)
+    drawn_in_range n h = grind (arith, common_steps)
 
     few_now : length old.lots ≤ 256
-    few_now =
-        let top = kept.at_most_256 in
-        let all = w.counted l in
-        let few = w.few in
-        grind arith
+    few_now = grind (arith, nat_tests)
 
     split : now.lots ≡ take i now.lots ++ x ∷ drop (suc i) now.lots
     split = split_at now.lots i no_lot e.within

@@ -111,9 +111,7 @@ module _ (k : Key) (n : ℕ) (t : Table) where
 -- What a purchase promises.
 
 more_units : (k j : Key) (r : LotRow) (n : ℕ) → of_key k r ≡ true → units_if (of_key j) (with_more r n) ≡ units_if (of_key j) r + cond (same_key k j) n 0
-more_units k j r n own =
-    let same = ap (λ (i : Key). same_key i j) (key_same r.key k own) in
-    grind arith
+more_units k j r n own = grind (arith, nat_tests)
 
 add_brings : (k j : Key) (n next : ℕ) (lots : List LotRow) → units_of_key j (add_units k n next lots) ≡ units_of_key j lots + cond (same_key k j) n 0
 add_brings k j n next [] = omega arith

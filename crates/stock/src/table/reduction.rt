@@ -71,9 +71,7 @@ impl LotTable {
         // no chain: its end is what is drawn, and not a list's
         while let Some(draw) = self.take(asked, left) {
             left -= draw.units;
-            let Ok(()) = draws.push(draw) else {
-                unreachable!()
-            };
+            draws.push(draw).unwrap();
         }
         draws
     }
