@@ -1,8 +1,8 @@
 -- The earliest matching lot: what the closed form names is what the relation says, and there is one.
+use Rattle.std.proofs.lemmas.Bool.Decides.{nat_tests}
 use Rattle.std.proofs.Common.{◌≡◌, ℕ, zero, suc, ◌<◌, ◌≤◌, Bool, true, false, not, List, [], ◌∷◌, length, get_or, Some, None, Option, refl, ap, ◌∙◌, inl, inr, arith}
 use Rattle.std.specs.List.{AllByRecursion}
 use Rattle.std.proofs.ByRecursion.{All-from_get_or}
-use Rattle.std.proofs.lemmas.Bool.{cond_both}
 use Rattle.lots.specs.declared.rows.LotRow.{LotRow}
 use Rattle.lots.specs.Rows.{no_lot}
 use Rattle.lots.specs.Orders.{Order, Keeps}
@@ -30,26 +30,11 @@ module _ (M : LotRow → Bool) (lt : LotRow → LotRow → Bool)
     (one : (a b : LotRow) → (a.serial ≡ b.serial → ⊥) → lt a b ≡ not (lt b a)) where
   best_matching : (r : LotRow) (rs : List LotRow) → M r ≡ true → (e : Option LotRow) → Best M lt rs e → Best M lt (r ∷ rs) (earlier lt r e)
   best_matching r rs m None all = record { there = inl refl; fits = m; least = λ a there fits. let own = irr r in let other = all_member (λ s. M s ≡ false) rs a all in grind arith }
-  best_matching r rs m (Some b) best =
-      cond_both (lt r b) (Some r) (Some b) (λ e. Best M lt (r ∷ rs) e)
-      (λ before. record {
-        there = inl refl;
-        fits = m;
-        least = λ a there fits. let own = irr r in let least = best.least a in let t = trans a r b in grind arith;
-      })
-      (λ after. record {
-        there = inr best.there;
-        fits = best.fits;
-        least = λ a there fits. let least = best.least a in grind arith;
-      })
+  best_matching r rs m (Some b) best = grind (arith, nat_tests)
 
   best_other : (r : LotRow) (rs : List LotRow) → M r ≡ false → (e : Option LotRow) → Best M lt rs e → Best M lt (r ∷ rs) e
   best_other r rs m None all = (m, all)
-  best_other r rs m (Some b) best = record {
-    there = inr best.there;
-    fits = best.fits;
-    least = λ a there fits. let least = best.least a in grind arith;
-  }
+  best_other r rs m (Some b) best = grind (arith, nat_tests)
 
   best_is : (xs : List LotRow) → Best M lt xs (earliest M lt xs)
   best_is [] = tt
