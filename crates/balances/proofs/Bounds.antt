@@ -1,13 +1,8 @@
 -- How far balances can have moved after some entries.
-use Rattle.std.proofs.Common.{◌≡◌, ℕ, zero, suc, ◌+◌, ◌<◌, ◌≤◌, true, List, [], ◌∷◌, length, set, ℤ, arith}
+use Rattle.std.proofs.Common.{◌≡◌, ℕ, zero, suc, ◌≤◌, true, List, [], ◌∷◌, ℤ, arith}
 use Rattle.std.proofs.lemmas.Bool.Decides.{nat_tests}
-use Rattle.std.proofs.lemmas.Grind.{common_steps}
 use Rattle.booking.specs.Balances.{all_within}
-use Rattle.balances.specs.Bounds.{Moved, Near}
-
--- one balance is another
-pub near_set : (bs : List ℤ) (a n : ℕ) (z : ℤ) → a < length bs → Near bs n → Moved (n + 1) z → Near (set bs a z) (n + 1)
-near_set bs a n z within near here k h = grind (arith, common_steps, near k h)
+use Rattle.balances.specs.Bounds.{Near}
 
 -- before any entry
 pub near_none : (bs : List ℤ) → all_within bs ≡ true → Near bs 0
