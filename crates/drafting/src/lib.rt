@@ -2,3 +2,4 @@
 #![tactic(auto)]
 
 pub mod checks;
+pub mod given;

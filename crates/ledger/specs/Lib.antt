@@ -2,3 +2,4 @@ pub mod Ranks
 pub mod Answers
 pub mod CallTables
 pub mod Kept
+pub mod Posting

@@ -14,6 +14,7 @@ pub mod drafts;
 mod fault;
 pub mod making;
 pub mod naming;
+pub mod posting;
 pub mod questions;
 pub mod rank;
 pub mod slip;

@@ -1,0 +1,196 @@
+// Posting to the draft of a slip.
+ghost use Rattle.std.specs.Prelude.{◌≡◌, ◌≤◌, ◌∷◌, [], not, true, is_some, Some, None, IfOk, IfSome};
+ghost use Rattle.std.specs.Option.{option_map, option_and_then};
+ghost use Rattle.refusal.specs.declared.Refusal.TheVariants.{NoSuchDraft, CommodityNotDeclared, AccountNotOpen, NotTheOwnCommodity, TooManyPostings, SecondBlank, BracesWithoutUse};
+ghost use Rattle.lots.specs.Rows.{most};
+ghost use Rattle.booking.specs.Balances.{first_met};
+ghost use Rattle.booking.specs.Weighing.{is_amount, own_agrees};
+ghost use Rattle.booking.specs.Stages.{unless};
+ghost use Rattle.booking.specs.Ranges.{posting_kind_in_range, posting_in_range};
+ghost use Rattle.books.specs.Checks.{Checks, Finds};
+ghost use Rattle.books.specs.Conditions.{no_such_draft, not_declared, not_open, too_many_postings, is_blank, holds_a_blank, braces_without_use};
+ghost use Rattle.books.specs.Given.{given_cost, given_braces, given_amount};
+ghost use Rattle.books.specs.Lookups.{commodity_number, open_account, number_or_0, own_of};
+ghost use Rattle.books.specs.Changes.{cost_of, posting_of};
+ghost use Rattle.books.specs.Refusals.{if_given, cost_not_declared, drafted, blank_tests, amount_tests};
+ghost use Rattle.ledger.specs.Posting.{kind_given};
+
+use crate::Ledger;
+use crate::slip::Slip;
+use books::call::{GivenAmount, GivenBraces, GivenCost};
+use booking::posting::{Posting, PostingKind};
+use booking::postings::MOST_POSTINGS;
+use drafting::checks::{check_account_name, refuse_unless};
+use drafting::given::check_amount;
+use lots::policy::Policy;
+use lots::rows::Cost;
+use refusal::Refusal;
+
+// What is posted: without braces a plain amount; with them units below 0 are a reduction, and units above 0 with a cost a purchase.
+// Other braces have no use, which is 20.
+fn kind_of(
+    number: i32,
+    commodity: u8,
+    braces: Option<GivenBraces<'_>>,
+    cost: Option<Cost>,
+) -> Result<PostingKind, Refusal>
+    requires { is_some cost ≡ is_some (option_and_then (λ b. b.cost) braces) }
+    ensures kind { result ≡ unless (first_met (if_given (λ b. (BracesWithoutUse, braces_without_use number b) ∷ []) (option_map given_braces braces.entry))) (kind_given number commodity (option_map (λ b. b.date) braces.entry) cost) }
+    ensures ranged { is_amount number ≡ true → IfSome cost (λ c. c.number ≤ most) → IfOk result (λ kind. posting_kind_in_range kind ≡ true) }
+{
+    let Some(GivenBraces { date, .. }) = braces else {
+        return Ok(PostingKind::Plain {
+            amount: number,
+            commodity,
+        });
+    };
+    let units = number.unsigned_abs();
+    match cost {
+        _ if number < 0 => Ok(PostingKind::Reduction {
+            units,
+            commodity,
+            cost,
+            date,
+        }),
+        Some(cost) if number > 0 => Ok(PostingKind::Purchase {
+            units,
+            commodity,
+            cost,
+            date,
+        }),
+        _ => Err(Refusal::BracesWithoutUse),
+    }
+}
+
+fn is_blank(kind: PostingKind) -> bool
+    ensures { result ≡ is_blank kind }
+{
+    matches!(kind, PostingKind::Blank)
+}
+
+fn has_blank(postings: &[Posting]) -> bool
+    ensures { result ≡ holds_a_blank postings.now }
+{
+    postings.iter().any(|posting| is_blank(posting.kind))
+}
+
+impl<P: Policy> Ledger<P> {
+    // 2
+    fn check_slip(&self, slip: &Slip) -> Result<(), Refusal>
+        ensures { Checks NoSuchDraft (no_such_draft self.now.state slip.now.number) result }
+    {
+        refuse_unless(
+            self.draft.is_some() && slip.number == self.transactions + 1,
+            Refusal::NoSuchDraft,
+        )
+    }
+
+    // 14: the number of a commodity.
+    fn declared(&self, name: &[u8]) -> Result<u8, Refusal>
+        ensures { Finds CommodityNotDeclared (not_declared self.now.state.names name.now) (number_or_0 (commodity_number self.now.state.names name.now)) result }
+    {
+        self.chart
+            .commodity(name)
+            .ok_or(Refusal::CommodityNotDeclared)
+    }
+
+    // 14: the cost in braces, with the number of its commodity.
+    fn declared_cost(&self, braces: Option<GivenBraces<'_>>) -> Result<Option<Cost>, Refusal>
+        ensures ranged { IfSome braces.entry (λ b. IfSome b.cost (λ c. is_amount c.number ≡ true)) → IfOk result (λ cost. IfSome cost (λ c. c.number ≤ most)) }
+        ensures named { result ≡ unless (first_met (if_given (cost_not_declared self.now.state) (option_map given_braces braces.entry))) (option_and_then (λ b. option_map (cost_of self.now.state.names) b.cost) (option_map given_braces braces.entry)) }
+    {
+        let Some(cost) = braces.and_then(|braces| braces.cost) else {
+            return Ok(None);
+        };
+        Ok(Some(Cost {
+            number: cost.number.unsigned_abs(),
+            commodity: self.declared(cost.commodity)?,
+        }))
+    }
+
+    // 16: the number of an account that is open.
+    fn opened(&self, name: &[u8]) -> Result<u16, Refusal>
+        ensures { Finds AccountNotOpen (not_open self.now.state.names name.now) (number_or_0 (open_account self.now.state.names name.now)) result }
+    {
+        self.chart.open_account(name).ok_or(Refusal::AccountNotOpen)
+    }
+
+    // 17
+    fn check_own(&self, account: u16, commodity: u8) -> Result<(), Refusal>
+        ensures { Checks NotTheOwnCommodity (not (own_agrees (own_of self.now.state.names (Some account)) commodity)) result }
+    {
+        let own = self.chart.own(account);
+        refuse_unless(
+            own.is_none_or(|own| own == commodity),
+            Refusal::NotTheOwnCommodity,
+        )
+    }
+
+    // The postings of the draft, if one is under way.
+    fn drafted(&self) -> &[Posting]
+        ensures { result.now ≡ drafted self.now.state.draft }
+    {
+        self.draft
+            .as_ref()
+            .map_or(&[], |draft| draft.postings.as_slice())
+    }
+
+    // 18
+    fn check_room(&self) -> Result<(), Refusal>
+        ensures { Checks TooManyPostings (too_many_postings (drafted self.now.state.draft)) result }
+    {
+        refuse_unless(
+            self.drafted().len() < MOST_POSTINGS,
+            Refusal::TooManyPostings,
+        )
+    }
+
+    // 19
+    fn check_one_blank(&self) -> Result<(), Refusal>
+        ensures { Checks SecondBlank (holds_a_blank (drafted self.now.state.draft)) result }
+    {
+        refuse_unless(!has_blank(self.drafted()), Refusal::SecondBlank)
+    }
+
+    // The posting of a blank, if it may be posted.
+    fn check_blank(&self, slip: &Slip, source: u32, account: &[u8]) -> Result<Posting, Refusal>
+        ensures { result ≡ unless (first_met (blank_tests self.now.state slip.now.number account.now)) (posting_of self.now.state.names source account.now None) }
+    {
+        self.check_slip(slip)?;
+        check_account_name(account)?;
+        let account = self.opened(account)?;
+        self.check_room()?;
+        self.check_one_blank()?;
+        Ok(Posting {
+            line: source,
+            account,
+            kind: PostingKind::Blank,
+        })
+    }
+
+    // The posting of an amount, if it may be posted.
+    #[tactic(auto, using(crate::proofs::Turns::refused_before, crate::proofs::Turns::passed_before))]
+    fn check_amount(
+        &self,
+        slip: &Slip,
+        source: u32,
+        account: &[u8],
+        amount: GivenAmount<'_>,
+    ) -> Result<Posting, Refusal>
+        ensures checked { result ≡ unless (first_met (amount_tests self.now.state slip.now.number account.now (given_amount amount.entry))) (posting_of self.now.state.names source account.now (Some (given_amount amount.entry))) }
+        ensures ranged { IfOk result (λ p. posting_in_range p ≡ true) }
+    {
+        self.check_slip(slip)?;
+        check_amount(account, amount)?;
+        let commodity = self.declared(amount.commodity)?;
+        let cost = self.declared_cost(amount.braces)?;
+        let account = self.opened(account)?;
+        self.check_own(account, commodity)?;
+        self.check_room()?;
+        Ok(Posting {
+            line: source,
+            account,
+            kind: kind_of(amount.number, commodity, amount.braces, cost)?,
+        })
+    }
+}
