@@ -9,7 +9,9 @@ ghost use Rattle.books.specs.Given.{given_cost, given_braces};
 ghost use Rattle.books.specs.Conditions.{bad_account_name, bad_commodity_name, bad_number};
 ghost use Rattle.books.specs.Refusals.{if_given, cost_fields, braces_fields};
 
-use crate::checks::{check_account_name, check_commodity_name, check_date, check_number, refuse_unless};
+use crate::checks::{
+    check_account_name, check_commodity_name, check_date, check_number, refuse_unless,
+};
 use books::call::{GivenAmount, GivenBraces, GivenCost};
 use refusal::Refusal;
 

@@ -1,5 +1,5 @@
 -- Tests in turn: those behind count where none before is met.
-use Rattle.std.proofs.Common.{◌≡◌, Bool, true, false, List, [], ◌∷◌, ◌++◌, Some, None, Ok, Err, refl}
+use Rattle.std.proofs.Common.{◌≡◌, Bool, true, false, List, [], ◌∷◌, ◌++◌, Ok, Err, refl}
 use Rattle.refusal.specs.declared.Refusal.{Refusal}
 use Rattle.booking.specs.Balances.{first_met}
 use Rattle.booking.specs.Stages.{unless}

@@ -1,5 +1,5 @@
 // Posting to the draft of a slip.
-ghost use Rattle.std.specs.Prelude.{◌≡◌, ◌≤◌, ◌∷◌, [], not, true, is_some, Some, None, IfOk, IfSome};
+ghost use Rattle.std.specs.Prelude.{◌≡◌, ◌<◌, ◌≤◌, ◌∷◌, [], not, true, is_some, Some, None, length, IfOk, IfSome, OnOk};
 ghost use Rattle.std.specs.Option.{option_map, option_and_then};
 ghost use Rattle.refusal.specs.declared.Refusal.TheVariants.{NoSuchDraft, CommodityNotDeclared, AccountNotOpen, NotTheOwnCommodity, TooManyPostings, SecondBlank, BracesWithoutUse};
 ghost use Rattle.lots.specs.Rows.{most};
@@ -11,20 +11,25 @@ ghost use Rattle.books.specs.Checks.{Checks, Finds};
 ghost use Rattle.books.specs.Conditions.{no_such_draft, not_declared, not_open, too_many_postings, is_blank, holds_a_blank, braces_without_use};
 ghost use Rattle.books.specs.Given.{given_cost, given_braces, given_amount};
 ghost use Rattle.books.specs.Lookups.{commodity_number, open_account, number_or_0, own_of};
-ghost use Rattle.books.specs.Changes.{cost_of, posting_of};
-ghost use Rattle.books.specs.Refusals.{if_given, cost_not_declared, drafted, blank_tests, amount_tests};
-ghost use Rattle.ledger.specs.Posting.{kind_given};
+ghost use Rattle.books.specs.Changes.{cost_of, posting_of, with_posting, with_draft};
+ghost use Rattle.books.specs.Refusals.{if_given, cost_not_declared, drafted, blank_tests, amount_tests, posting_tests};
+ghost use Rattle.books.specs.Calls.{posting};
+ghost use Rattle.books.specs.declared.outcome.Outcome.TheVariants.{Done};
+ghost use Rattle.ledger.specs.Answers.{carried_out, outcome_of};
+ghost use Rattle.ledger.specs.Kept.{in_state};
+ghost use Rattle.ledger.specs.Posting.{kind_given, posting_to, account_tests, commodity_tests};
 
 use crate::Ledger;
+use crate::fault::reported;
 use crate::slip::Slip;
-use books::call::{GivenAmount, GivenBraces, GivenCost};
 use booking::posting::{Posting, PostingKind};
 use booking::postings::MOST_POSTINGS;
+use books::call::{GivenAmount, GivenBraces, GivenCost};
 use drafting::checks::{check_account_name, refuse_unless};
 use drafting::given::check_amount;
 use lots::policy::Policy;
 use lots::rows::Cost;
-use refusal::Refusal;
+use refusal::{Fault, Refusal};
 
 // What is posted: without braces a plain amount; with them units below 0 are a reduction, and units above 0 with a cost a purchase.
 // Other braces have no use, which is 20.
@@ -168,8 +173,42 @@ impl<P: Policy> Ledger<P> {
         })
     }
 
+    // 16 to 18 and 20: the posting, once its commodities have numbers.
+    fn number_account(
+        &self,
+        source: u32,
+        account: &[u8],
+        amount: GivenAmount<'_>,
+        commodity: u8,
+        cost: Option<Cost>,
+    ) -> Result<Posting, Refusal>
+        requires { is_some cost ≡ is_some (option_and_then (λ b. b.cost) amount.braces) }
+        ensures checked { result ≡ unless (first_met (account_tests self.now.state account.now commodity (given_amount amount.entry))) (posting_to self.now.state.names source account.now (kind_given amount.entry.number commodity (option_map (λ b. b.date) amount.entry.braces) cost)) }
+        ensures ranged { is_amount amount.entry.number ≡ true → IfSome cost (λ c. c.number ≤ most) → IfOk result (λ p. posting_in_range p ≡ true) }
+        ensures room { OnOk result (length (drafted self.now.state.draft) < 16) }
+    {
+        let account = self.opened(account)?;
+        self.check_own(account, commodity)?;
+        self.check_room()?;
+        Ok(Posting {
+            line: source,
+            account,
+            kind: kind_of(amount.number, commodity, amount.braces, cost)?,
+        })
+    }
+
+    // 14, and what follows it: names become numbers.
+    fn number_commodities(&self, source: u32, account: &[u8], amount: GivenAmount<'_>) -> Result<Posting, Refusal>
+        ensures checked { result ≡ unless (first_met (commodity_tests self.now.state account.now (given_amount amount.entry))) (posting_of self.now.state.names source account.now (Some (given_amount amount.entry))) }
+        ensures ranged { is_amount amount.entry.number ≡ true → IfSome amount.entry.braces (λ b. IfSome b.cost (λ c. is_amount c.number ≡ true)) → IfOk result (λ p. posting_in_range p ≡ true) }
+        ensures room { OnOk result (length (drafted self.now.state.draft) < 16) }
+    {
+        let commodity = self.declared(amount.commodity)?;
+        let cost = self.declared_cost(amount.braces)?;
+        self.number_account(source, account, amount, commodity, cost)
+    }
+
     // The posting of an amount, if it may be posted.
-    #[tactic(auto, using(crate::proofs::Turns::refused_before, crate::proofs::Turns::passed_before))]
     fn check_amount(
         &self,
         slip: &Slip,
@@ -179,18 +218,55 @@ impl<P: Policy> Ledger<P> {
     ) -> Result<Posting, Refusal>
         ensures checked { result ≡ unless (first_met (amount_tests self.now.state slip.now.number account.now (given_amount amount.entry))) (posting_of self.now.state.names source account.now (Some (given_amount amount.entry))) }
         ensures ranged { IfOk result (λ p. posting_in_range p ≡ true) }
+        ensures room { OnOk result (length (drafted self.now.state.draft) < 16) }
     {
         self.check_slip(slip)?;
         check_amount(account, amount)?;
-        let commodity = self.declared(amount.commodity)?;
-        let cost = self.declared_cost(amount.braces)?;
-        let account = self.opened(account)?;
-        self.check_own(account, commodity)?;
-        self.check_room()?;
-        Ok(Posting {
-            line: source,
-            account,
-            kind: kind_of(amount.number, commodity, amount.braces, cost)?,
-        })
+        self.number_commodities(source, account, amount)
+    }
+
+    // The posting, if it may be posted; without an amount it is a blank.
+    fn check_posting(
+        &self,
+        slip: &Slip,
+        source: u32,
+        account: &[u8],
+        amount: Option<GivenAmount<'_>>,
+    ) -> Result<Posting, Refusal>
+        ensures checked { result ≡ unless (first_met (posting_tests self.now.state slip.now.number account.now (option_map given_amount amount.entry))) (posting_of self.now.state.names source account.now (option_map given_amount amount.entry)) }
+        ensures ranged { IfOk result (λ p. posting_in_range p ≡ true) }
+        ensures room { OnOk result (length (drafted self.now.state.draft) < 16) }
+    {
+        match amount {
+            None => self.check_blank(slip, source, account),
+            Some(amount) => self.check_amount(slip, source, account, amount),
+        }
+    }
+
+    // The posting joins the draft under way.
+    fn join(&mut self, posting: Posting)
+        requires ranged { posting_in_range posting ≡ true }
+        requires room { length (drafted self.old.state.draft) < 16 }
+        ensures { self.new ≡ in_state self.old (with_draft self.old.state (option_map (with_posting posting) self.old.state.draft)) }
+    {
+        if let Some(draft) = &mut self.draft {
+            draft.postings.push(posting).unwrap();
+        }
+    }
+
+    // Adds a posting to the draft of a slip; without an amount, a blank.
+    pub(crate) fn post(
+        &mut self,
+        slip: &Slip,
+        source: u32,
+        account: &[u8],
+        amount: Option<GivenAmount<'_>>,
+    ) -> Result<(), Fault>
+        ensures { (outcome_of (λ _. Done) result, self.new) ≡ carried_out P.Policy.order self.old (posting slip.now.number source account.now (option_map given_amount amount.entry)) }
+    {
+        let checked = self.check_posting(slip, source, account, amount);
+        let posting = reported(source, checked)?;
+        self.join(posting);
+        Ok(())
     }
 }
