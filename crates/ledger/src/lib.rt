@@ -17,6 +17,7 @@ pub mod naming;
 pub mod posting;
 pub mod questions;
 pub mod rank;
+pub mod recording;
 pub mod slip;
 
 // Everything is kept in place: no call allocates.
