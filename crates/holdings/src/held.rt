@@ -50,6 +50,12 @@ impl Holdings {
         &self.lots
     }
 
+    pub fn balances(&self) -> &Balances
+        ensures { result.now ≡ self.now.balances }
+    {
+        &self.balances
+    }
+
     // The units of an account's open lots of a commodity.
     #[tactic(auto, using(crate::proofs::Bounds::kept_few))]
     fn units_in_lots(&self, account: u16, commodity: u8) -> i64

@@ -1,2 +1,4 @@
 pub mod Answering
+pub mod Planning
 pub mod Turns
+pub mod Weighing

@@ -3,3 +3,4 @@ pub mod Answers
 pub mod CallTables
 pub mod Kept
 pub mod Posting
+pub mod Settling

@@ -18,6 +18,7 @@ pub mod posting;
 pub mod questions;
 pub mod rank;
 pub mod recording;
+pub mod settling;
 pub mod slip;
 
 // Everything is kept in place: no call allocates.

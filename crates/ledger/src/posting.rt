@@ -198,7 +198,12 @@ impl<P: Policy> Ledger<P> {
     }
 
     // 14, and what follows it: names become numbers.
-    fn number_commodities(&self, source: u32, account: &[u8], amount: GivenAmount<'_>) -> Result<Posting, Refusal>
+    fn number_commodities(
+        &self,
+        source: u32,
+        account: &[u8],
+        amount: GivenAmount<'_>,
+    ) -> Result<Posting, Refusal>
         ensures checked { result ≡ unless (first_met (commodity_tests self.now.state account.now (given_amount amount.entry))) (posting_of self.now.state.names source account.now (Some (given_amount amount.entry))) }
         ensures ranged { is_amount amount.entry.number ≡ true → IfSome amount.entry.braces (λ b. IfSome b.cost (λ c. is_amount c.number ≡ true)) → IfOk result (λ p. posting_in_range p ≡ true) }
         ensures room { OnOk result (length (drafted self.now.state.draft) < 16) }

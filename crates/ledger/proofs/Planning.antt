@@ -1,0 +1,57 @@
+-- What settling a draft will leave: booked, weighed, and asked for room.
+use Rattle.std.proofs.Common.{◌≡◌, ℕ, List, ℤ, Some, None, Ok, Err, Option, Result, refl, arith}
+use Rattle.std.proofs.lemmas.Grind.{common_steps}
+use Rattle.std.specs.Result.{result_map_both, IsErrAnd}
+use Rattle.refusal.specs.declared.Refusal.{Refusal}
+use Rattle.refusal.specs.declared.Fault.{Fault}
+use Rattle.refusal.specs.Faults.{fault_at}
+use Rattle.lots.specs.Orders.{Order}
+use Rattle.stock.specs.Promises.{map_ok}
+use Rattle.stock.specs.Tables.{Table}
+use Rattle.booking.specs.declared.draft.Draft.{Draft}
+use Rattle.booking.specs.declared.entry.Entry.{Entry}
+use Rattle.booking.specs.declared.posting.Posting.{Posting}
+use Rattle.booking.specs.Booking.{table_after, first_fault}
+use Rattle.booking.specs.Stages.{unless, book_draft}
+use Rattle.books.specs.States.{State}
+use Rattle.books.specs.Refusals.{draft_entries}
+use Rattle.books.proofs.Nested.{draft_first}
+use Rattle.ledger.specs.Kept.{Kept}
+use Rattle.ledger.proofs.Weighing.{passed_is}
+use Rattle.ledger.specs.Settling.{weighed_draft, planned}
+
+-- booked upon the lots of a ledger, told by its parts
+pub booked_there : {P : Type 0} (order : P → Order) {k l : Kept P} {t : Table} {r : Result (Table × List Entry) Fault} (day : ℕ) (ps : List Posting) → k ≡ l → t ≡ k.state.books.table → r ≡ book_draft (order k.policy) day t ps → r ≡ book_draft (order l.policy) day l.state.books.table ps
+booked_there order day ps same there is = cc
+
+pub fault_stays : {X : Type 0} (r : Result X Fault) {w : Result X Fault} {f : Fault} → IsErrAnd r (λ d. d ≡ f) → Err f ≡ w → r ≡ w
+fault_stays (Ok x) same is = absurd same
+fault_stays (Err d) same is = cc
+
+module _ (o : Order) (s : State) (lent : ℕ) (d : Draft) where
+  abbrev es : List Entry
+  es = draft_entries o s d
+
+  abbrev booked : Table × List Entry
+  booked = (table_after o d.date s.books.table d.postings, es)
+
+  pub lots_refused : {f : Fault} → Err f ≡ book_draft o d.date s.books.table d.postings → Err f ≡ planned o s lent d
+  lots_refused {f} is = by (first_fault o d.date s.books.table d.postings) refl is
+    where
+      by : (r : Option Fault) → first_fault o d.date s.books.table d.postings ≡ r → Err f ≡ unless r booked → Err f ≡ planned o s lent d
+      by None met told = cc
+      by (Some e) met told = let first = draft_first o s lent d in grind (arith, common_steps)
+
+  pub draft_refused : {b : Table × List Entry} {X : Type 0} (r : Result X Refusal) {f : Fault} (g : X → List Entry × List ℤ) → Ok b ≡ book_draft o d.date s.books.table d.postings → map_ok g r ≡ weighed_draft s lent d b.1 → Err f ≡ result_map_both (λ x. x) (fault_at d.line) r → Err f ≡ planned o s lent d
+  draft_refused {b} (Ok x) {f} g is weighed told = cc
+  draft_refused {b} (Err e) {f} g is weighed told =
+      let first = draft_first o s lent d in
+      let same = passed_is (first_fault o d.date s.books.table d.postings) booked b is in
+      grind (arith, common_steps)
+
+  pub planned_as : {b : Table × List Entry} {X : Type 0} (r : Result X Refusal) {x : X} (g : X → List Entry × List ℤ) → Ok b ≡ book_draft o d.date s.books.table d.postings → map_ok g r ≡ weighed_draft s lent d b.1 → Ok x ≡ result_map_both (λ x. x) (fault_at d.line) r → Ok ((b.0, (g x).0), (g x).1) ≡ planned o s lent d
+  planned_as {b} (Err e) {x} g is weighed told = cc
+  planned_as {b} (Ok y) {x} g is weighed told =
+      let first = draft_first o s lent d in
+      let same = passed_is (first_fault o d.date s.books.table d.postings) booked b is in
+      grind (arith, common_steps)
