@@ -1,5 +1,5 @@
 -- What a posting of an amount meets and comes to, step by step.
-use Rattle.std.specs.Prelude.{ℕ, Bool, not, List, [], ◌∷◌, ◌++◌, ℤ, Some, None, Option}
+use Rattle.std.specs.Prelude.{ℕ, Bool, not, List, [], ◌∷◌, ◌++◌, ℤ, Some, None, Option, length, ◌<◌}
 use Rattle.refusal.specs.declared.Refusal.{Refusal}
 use Rattle.refusal.specs.declared.Refusal.TheVariants.{CommodityNotDeclared, AccountNotOpen, NotTheOwnCommodity, TooManyPostings, BracesWithoutUse}
 use Rattle.lots.specs.declared.rows.Cost.{Cost}
@@ -35,3 +35,7 @@ abbrev pub commodity_tests : State → List ℕ → AmountGiven → List (Refusa
 commodity_tests s account x =
     (CommodityNotDeclared, not_declared s.names x.commodity)
     ∷ (if_given (cost_not_declared s) x.braces ++ account_tests s account (number_or_0 (commodity_number s.names x.commodity)) x)
+
+-- the draft under way, if there is one, has a place left
+abbrev pub HasPlace : State → Type 0
+HasPlace s = length (drafted s.draft) < 16

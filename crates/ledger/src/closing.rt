@@ -55,10 +55,7 @@ impl<P: Policy> Ledger<P> {
         check_number(amount)?;
         check_commodity_name(commodity)?;
         self.check_forward(date, Rank::Asserting)?;
-        let number = self
-            .chart
-            .commodity(commodity)
-            .ok_or(Refusal::CommodityNotDeclared)?;
+        let number = self.declared(commodity)?;
         let total = self
             .total_under(account, number)
             .ok_or(Refusal::AccountNotOpen)?;
@@ -92,10 +89,7 @@ impl<P: Policy> Ledger<P> {
         check_date(date)?;
         check_account_name(account)?;
         self.check_forward(date, Rank::Closing)?;
-        let number = self
-            .chart
-            .open_account(account)
-            .ok_or(Refusal::AccountNotOpen)?;
+        let number = self.opened(account)?;
         refuse_unless(
             self.holdings.is_empty_account(number),
             Refusal::AccountNotEmpty,

@@ -58,8 +58,8 @@ impl<P: Policy> Ledger<P> {
         ensures answer { (outcome_with_slip (λ _. Done) result, self.new) ≡ carried_out P.Policy.order self.old (tearing slip.number) }
         ensures slip { GivesBack slip result }
     {
-        if self.draft.is_none() || slip.number != self.transactions + 1 {
-            return Err((slip, Refusal::NoSuchDraft.on(0)));
+        if let Err(refusal) = self.check_slip(&slip) {
+            return Err((slip, refusal.on(0)));
         }
         let Slip { number: _ } = slip;
         self.draft = None;

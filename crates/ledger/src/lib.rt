@@ -12,6 +12,7 @@ pub mod closing;
 pub mod dated;
 pub mod drafts;
 mod fault;
+mod lookups;
 pub mod making;
 pub mod naming;
 pub mod posting;

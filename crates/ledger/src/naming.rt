@@ -79,11 +79,7 @@ impl<P: Policy> Ledger<P> {
         let Some(name) = own else {
             return Ok(None);
         };
-        let number = self
-            .chart
-            .commodity(name)
-            .ok_or(Refusal::CommodityNotDeclared)?;
-        Ok(Some(number))
+        Ok(Some(self.declared(name)?))
     }
 
     fn check_opening(

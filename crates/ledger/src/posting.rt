@@ -1,23 +1,23 @@
 // Posting to the draft of a slip.
-ghost use Rattle.std.specs.Prelude.{◌≡◌, ◌<◌, ◌≤◌, ◌∷◌, [], not, true, is_some, Some, None, length, IfOk, IfSome, OnOk};
+ghost use Rattle.std.specs.Prelude.{◌≡◌, ◌≤◌, ◌∷◌, [], not, true, is_some, Some, None, IfOk, IfSome, OnOk};
 ghost use Rattle.std.specs.Option.{option_map, option_and_then};
-ghost use Rattle.refusal.specs.declared.Refusal.TheVariants.{NoSuchDraft, CommodityNotDeclared, AccountNotOpen, NotTheOwnCommodity, TooManyPostings, SecondBlank, BracesWithoutUse};
+ghost use Rattle.refusal.specs.declared.Refusal.TheVariants.{NotTheOwnCommodity, TooManyPostings, SecondBlank, BracesWithoutUse};
 ghost use Rattle.lots.specs.Rows.{most};
 ghost use Rattle.booking.specs.Balances.{first_met};
 ghost use Rattle.booking.specs.Weighing.{is_amount, own_agrees};
 ghost use Rattle.booking.specs.Stages.{unless};
 ghost use Rattle.booking.specs.Ranges.{posting_kind_in_range, posting_in_range};
-ghost use Rattle.books.specs.Checks.{Checks, Finds};
-ghost use Rattle.books.specs.Conditions.{no_such_draft, not_declared, not_open, too_many_postings, is_blank, holds_a_blank, braces_without_use};
+ghost use Rattle.books.specs.Checks.{Checks};
+ghost use Rattle.books.specs.Conditions.{too_many_postings, is_blank, holds_a_blank, braces_without_use};
 ghost use Rattle.books.specs.Given.{given_cost, given_braces, given_amount};
-ghost use Rattle.books.specs.Lookups.{commodity_number, open_account, number_or_0, own_of};
+ghost use Rattle.books.specs.Lookups.{own_of};
 ghost use Rattle.books.specs.Changes.{cost_of, posting_of, with_posting, with_draft};
 ghost use Rattle.books.specs.Refusals.{if_given, cost_not_declared, drafted, blank_tests, amount_tests, posting_tests};
 ghost use Rattle.books.specs.Calls.{posting};
 ghost use Rattle.books.specs.declared.outcome.Outcome.TheVariants.{Done};
 ghost use Rattle.ledger.specs.Answers.{carried_out, outcome_of};
 ghost use Rattle.ledger.specs.Kept.{in_state};
-ghost use Rattle.ledger.specs.Posting.{kind_given, posting_to, account_tests, commodity_tests};
+ghost use Rattle.ledger.specs.Posting.{kind_given, posting_to, account_tests, commodity_tests, HasPlace};
 
 use crate::Ledger;
 use crate::fault::reported;
@@ -80,25 +80,6 @@ fn has_blank(postings: &[Posting]) -> bool
 }
 
 impl<P: Policy> Ledger<P> {
-    // 2
-    fn check_slip(&self, slip: &Slip) -> Result<(), Refusal>
-        ensures { Checks NoSuchDraft (no_such_draft self.now.state slip.now.number) result }
-    {
-        refuse_unless(
-            self.draft.is_some() && slip.number == self.transactions + 1,
-            Refusal::NoSuchDraft,
-        )
-    }
-
-    // 14: the number of a commodity.
-    fn declared(&self, name: &[u8]) -> Result<u8, Refusal>
-        ensures { Finds CommodityNotDeclared (not_declared self.now.state.names name.now) (number_or_0 (commodity_number self.now.state.names name.now)) result }
-    {
-        self.chart
-            .commodity(name)
-            .ok_or(Refusal::CommodityNotDeclared)
-    }
-
     // 14: the cost in braces, with the number of its commodity.
     fn declared_cost(&self, braces: Option<GivenBraces<'_>>) -> Result<Option<Cost>, Refusal>
         ensures ranged { IfSome braces.entry (λ b. IfSome b.cost (λ c. is_amount c.number ≡ true)) → IfOk result (λ cost. IfSome cost (λ c. c.number ≤ most)) }
@@ -111,13 +92,6 @@ impl<P: Policy> Ledger<P> {
             number: cost.number.unsigned_abs(),
             commodity: self.declared(cost.commodity)?,
         }))
-    }
-
-    // 16: the number of an account that is open.
-    fn opened(&self, name: &[u8]) -> Result<u16, Refusal>
-        ensures { Finds AccountNotOpen (not_open self.now.state.names name.now) (number_or_0 (open_account self.now.state.names name.now)) result }
-    {
-        self.chart.open_account(name).ok_or(Refusal::AccountNotOpen)
     }
 
     // 17
@@ -185,7 +159,7 @@ impl<P: Policy> Ledger<P> {
         requires { is_some cost ≡ is_some (option_and_then (λ b. b.cost) amount.braces) }
         ensures checked { result ≡ unless (first_met (account_tests self.now.state account.now commodity (given_amount amount.entry))) (posting_to self.now.state.names source account.now (kind_given amount.entry.number commodity (option_map (λ b. b.date) amount.entry.braces) cost)) }
         ensures ranged { is_amount amount.entry.number ≡ true → IfSome cost (λ c. c.number ≤ most) → IfOk result (λ p. posting_in_range p ≡ true) }
-        ensures room { OnOk result (length (drafted self.now.state.draft) < 16) }
+        ensures room { OnOk result (HasPlace self.now.state) }
     {
         let account = self.opened(account)?;
         self.check_own(account, commodity)?;
@@ -206,7 +180,7 @@ impl<P: Policy> Ledger<P> {
     ) -> Result<Posting, Refusal>
         ensures checked { result ≡ unless (first_met (commodity_tests self.now.state account.now (given_amount amount.entry))) (posting_of self.now.state.names source account.now (Some (given_amount amount.entry))) }
         ensures ranged { is_amount amount.entry.number ≡ true → IfSome amount.entry.braces (λ b. IfSome b.cost (λ c. is_amount c.number ≡ true)) → IfOk result (λ p. posting_in_range p ≡ true) }
-        ensures room { OnOk result (length (drafted self.now.state.draft) < 16) }
+        ensures room { OnOk result (HasPlace self.now.state) }
     {
         let commodity = self.declared(amount.commodity)?;
         let cost = self.declared_cost(amount.braces)?;
@@ -223,7 +197,7 @@ impl<P: Policy> Ledger<P> {
     ) -> Result<Posting, Refusal>
         ensures checked { result ≡ unless (first_met (amount_tests self.now.state slip.now.number account.now (given_amount amount.entry))) (posting_of self.now.state.names source account.now (Some (given_amount amount.entry))) }
         ensures ranged { IfOk result (λ p. posting_in_range p ≡ true) }
-        ensures room { OnOk result (length (drafted self.now.state.draft) < 16) }
+        ensures room { OnOk result (HasPlace self.now.state) }
     {
         self.check_slip(slip)?;
         check_amount(account, amount)?;
@@ -240,7 +214,7 @@ impl<P: Policy> Ledger<P> {
     ) -> Result<Posting, Refusal>
         ensures checked { result ≡ unless (first_met (posting_tests self.now.state slip.now.number account.now (option_map given_amount amount.entry))) (posting_of self.now.state.names source account.now (option_map given_amount amount.entry)) }
         ensures ranged { IfOk result (λ p. posting_in_range p ≡ true) }
-        ensures room { OnOk result (length (drafted self.now.state.draft) < 16) }
+        ensures room { OnOk result (HasPlace self.now.state) }
     {
         match amount {
             None => self.check_blank(slip, source, account),
@@ -251,7 +225,7 @@ impl<P: Policy> Ledger<P> {
     // The posting joins the draft under way.
     fn join(&mut self, posting: Posting)
         requires ranged { posting_in_range posting ≡ true }
-        requires room { length (drafted self.old.state.draft) < 16 }
+        requires room { HasPlace self.old.state }
         ensures { self.new ≡ in_state self.old (with_draft self.old.state (option_map (with_posting posting) self.old.state.draft)) }
     {
         if let Some(draft) = &mut self.draft {
