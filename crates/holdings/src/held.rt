@@ -2,19 +2,25 @@
 ghost use Rattle.std.specs.Prelude.{◌≡◌, ◌≤◌, pos, None, length, if◌then◌else◌, unsigned_abs};
 ghost use Rattle.matching.specs.Matching.{matches, units_matching};
 ghost use Rattle.values.specs.Names.{lies_under};
+ghost use Rattle.stock.specs.Promises.{map_ok};
 ghost use Rattle.booking.specs.Balances.{largest_balance};
 ghost use Rattle.booking.specs.Postings.{wanted_lots};
 ghost use Rattle.booking.specs.Weighing.{is_zero};
+ghost use Rattle.balances.specs.Stages.{weighed};
 ghost use Rattle.books.specs.Holdings.{units_in_lots, plain_balance, holding, holdings_under, no_plain_balance, has_lot, is_empty_account};
 ghost use Rattle.books.specs.States.{empty_ledger};
 ghost use Rattle.holdings.specs.Bounds.{most_in_lots, largest_holding};
 
 use balances::table::Balances;
+use balances::weighing::weigh;
+use booking::entries::Entries;
 use booking::limits::MOST_COMMODITIES;
+use booking::posting::Posting;
 use books::account::Account;
 use chart::table::Chart;
 use matching::search::units_matching;
 use matching::wanted::Wanted;
+use refusal::Refusal;
 use std::marker::Model;
 use stock::table::LotTable;
 use values::names::is_under;
@@ -50,10 +56,17 @@ impl Holdings {
         &self.lots
     }
 
-    pub fn balances(&self) -> &Balances
-        ensures { result.now ≡ self.now.balances }
+    // Fills the blank among the entries of a draft and answers the plain balances after them, or the first of 25 to 27 that it meets.
+    // `own` is the own commodity of the blank's account.
+    pub fn weigh(
+        &self,
+        postings: &[Posting],
+        entries: &mut Entries,
+        own: Option<u8>,
+    ) -> Result<Balances, Refusal>
+        ensures { map_ok (λ b. (entries.new, b)) result ≡ weighed postings.now own self.now.balances entries.old }
     {
-        &self.balances
+        weigh(postings, entries, own, &self.balances)
     }
 
     // The units of an account's open lots of a commodity.

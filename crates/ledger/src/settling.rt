@@ -8,7 +8,6 @@ ghost use Rattle.ledger.specs.Settling.{weighed_draft, planned};
 use crate::Ledger;
 use crate::fault::reported;
 use balances::table::Balances;
-use balances::weighing::weigh;
 use booking::booked::Booked;
 use booking::draft::{Draft, book};
 use booking::entries::{Entries, blank_account};
@@ -29,12 +28,9 @@ impl<P: Policy> Ledger<P> {
         ensures { map_ok (λ b. (entries.new, b)) result ≡ weighed_draft self.now.state lent draft.now entries.old }
     {
         let own = self.own_of_blank(entries);
-        let balances = weigh(
-            draft.postings.as_slice(),
-            entries,
-            own,
-            self.holdings.balances(),
-        )?;
+        let balances = self
+            .holdings
+            .weigh(draft.postings.as_slice(), entries, own)?;
         room_for(lent, self.rows as usize + entries.as_slice().len())?;
         Ok(balances)
     }

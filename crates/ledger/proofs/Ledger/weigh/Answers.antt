@@ -10,22 +10,22 @@ use Rattle.ledger.proofs.Ledger.weigh.Goals as goal
 pub returns-in_err-balances : goal.returns-in_err-balances
 returns-in_err-balances g c =
     let a = c.args in
-    err_stays _ _ c.from_residual.ensures.1 (weighing_refused a.self.now.state a.lent a.draft.now a.entries.now _ c.as_slice.ensures.listed c.own_of_blank-own.ensures (c.balances.ensures ∙ ap (λ (s : State). s.books.balances) (same_state c.self.view_is)) c.in_err-balances.ensures.defined)
+    err_stays _ _ c.from_residual.ensures.1 (weighing_refused a.self.now.state a.lent a.draft.now a.entries.now _ c.as_slice.ensures.listed c.own_of_blank-own.ensures (ap (λ (s : State). s.books.balances) (same_state c.self.view_is)) c.in_err-balances.ensures)
 
 pub returns-in_err-room_for : goal.returns-in_err-room_for
 returns-in_err-room_for g c =
     let a = c.args in
     let s = a.self.now.state in
-    let passed = weighing_passed s a.lent a.draft.now a.entries.now _ _ _ _ _ c.as_slice.ensures.listed c.own_of_blank-own.ensures (c.balances.ensures ∙ ap (λ (s : State). s.books.balances) (same_state c.self.view_is)) c.in_ok-balances.ensures.defined in
-    let filled = ap (λ (p : List Entry × List ℤ). length p.0) (passed_is _ _ _ c.in_ok-balances.ensures.defined) ∙ length_complete a.entries.now in
+    let passed = weighing_passed s a.lent a.draft.now a.entries.now _ _ _ _ _ c.as_slice.ensures.listed c.own_of_blank-own.ensures (ap (λ (s : State). s.books.balances) (same_state c.self.view_is)) c.in_ok-balances.ensures in
+    let filled = ap (λ (p : List Entry × List ℤ). length p.0) (passed_is _ _ _ c.in_ok-balances.ensures) ∙ length_complete a.entries.now in
     err_stays _ _ c.from_residual-in_err-room_for.ensures.1 (room_refused s a.lent a.draft.now a.entries.now _ (omega (arith, filled, ap length c.as_slice-2.ensures.listed, ap (λ (s : State). s.rows) (same_state c.self.view_is))) c.in_err-room_for.ensures.answer passed)
 
 pub returns : goal.returns
 returns g c =
     let a = c.args in
     let s = a.self.now.state in
-    let passed = weighing_passed s a.lent a.draft.now a.entries.now _ _ _ _ _ c.as_slice.ensures.listed c.own_of_blank-own.ensures (c.balances.ensures ∙ ap (λ (s : State). s.books.balances) (same_state c.self.view_is)) c.in_ok-balances.ensures.defined in
-    let same = passed_is _ _ _ c.in_ok-balances.ensures.defined in
+    let passed = weighing_passed s a.lent a.draft.now a.entries.now _ _ _ _ _ c.as_slice.ensures.listed c.own_of_blank-own.ensures (ap (λ (s : State). s.books.balances) (same_state c.self.view_is)) c.in_ok-balances.ensures in
+    let same = passed_is _ _ _ c.in_ok-balances.ensures in
     let filled = ap (λ (p : List Entry × List ℤ). length p.0) same ∙ length_complete a.entries.now in
     let room = room_passed s a.lent a.draft.now a.entries.now _ (omega (arith, filled, ap length c.as_slice-2.ensures.listed, ap (λ (s : State). s.rows) (same_state c.self.view_is))) c.in_ok-room_for.ensures.answer passed in
-    ap Ok (same ∙ ap (λ (bs : List ℤ). (complete a.entries.now, balances_after bs (complete a.entries.now))) (c.balances.ensures ∙ ap (λ (s : State). s.books.balances) (same_state c.self.view_is))) ∙ room
+    ap Ok (same ∙ ap (λ (bs : List ℤ). (complete a.entries.now, balances_after bs (complete a.entries.now))) (ap (λ (s : State). s.books.balances) (same_state c.self.view_is))) ∙ room
