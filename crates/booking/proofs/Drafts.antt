@@ -1,6 +1,6 @@
 -- One posting more of a draft.
 use Rattle.std.proofs.lemmas.Grind.{common_steps}
-use Rattle.std.proofs.Common.{arith, ◌≡◌, ℕ, ◌+◌, ◌<◌, List, ◌++◌, length, get_or, drop, Some, None, Ok, Option, Result}
+use Rattle.std.proofs.Common.{arith, ◌≡◌, ℕ, ◌+◌, ◌<◌, List, ◌++◌, length, get_or, drop, Some, None, Ok, Err, Option, Result}
 use Rattle.refusal.specs.declared.Refusal.{Refusal}
 use Rattle.refusal.specs.declared.Fault.{Fault}
 use Rattle.lots.specs.Orders.{Order}
@@ -33,3 +33,7 @@ module _ (o : Order) (day : ℕ) (b : Table × List Entry) where
   module _ (ps : List Posting) (i : ℕ) (within : i < length ps) (all : Result (Table × List Entry) Fault) (was : book_postings o day b (drop i ps) ≡ all) where
     pub booked_more : (c : Table × List Entry) → Ok c ≡ book_posting o day (get_or ps i no_posting) b → book_postings o day c (drop (i + 1) ps) ≡ all
     booked_more c e = grind (arith, common_steps)
+
+    -- or it is refused, and so is the draft
+    pub booked_refused : {f : Fault} → Err f ≡ book_posting o day (get_or ps i no_posting) b → Err f ≡ all
+    booked_refused {f} e = grind (arith, common_steps)

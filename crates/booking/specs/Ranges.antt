@@ -1,4 +1,5 @@
--- The ranges of what a draft holds: a purchase is within a lot's ranges, and no entry has more units than a lot can have.
+-- The ranges of what a draft holds: a purchase is within a lot's ranges, a reduction asks for some units, and no entry has more
+-- units than a lot can have.
 use Rattle.std.specs.Prelude.{Bool, true, ◌&&◌, nat_le}
 use Rattle.lots.specs.Rows.{most}
 use Rattle.stock.specs.Promises.{draw_in_range}
@@ -13,7 +14,7 @@ abbrev pub posting_kind_in_range : PostingKind → Bool
 posting_kind_in_range Blank = true
 posting_kind_in_range (Plain amount commodity) = true
 posting_kind_in_range (Purchase units commodity cost date) = nat_le 1 units && (nat_le units most && nat_le cost.number most)
-posting_kind_in_range (Reduction units commodity cost date) = true
+posting_kind_in_range (Reduction units commodity cost date) = nat_le 1 units
 
 abbrev pub posting_in_range : Posting → Bool
 posting_in_range p = posting_kind_in_range p.kind

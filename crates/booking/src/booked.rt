@@ -1,6 +1,6 @@
 // What a draft comes to: the open lots after it, and its entries. Postings are booked one after another,
 // each upon the lots that the one before left; the first that is refused ends it.
-ghost use Rattle.std.specs.Prelude.{◌≡◌, ◌+◌, ◌≤◌, ◌<◌, ◌∷◌, [], ◌++◌, true, length};
+ghost use Rattle.std.specs.Prelude.{◌≡◌, ◌+◌, ◌≤◌, ◌<◌, ◌∷◌, [], ◌++◌, true, length, OnOk};
 ghost use Rattle.std.specs.List.{list_all};
 ghost use Rattle.lots.specs.Rows.{in_range};
 ghost use Rattle.stock.specs.Promises.{map_ok, draw_in_range};
@@ -64,6 +64,7 @@ impl Booked {
         requires serials { HasSerials self.old }
         ensures defined { map_ok (λ _. self.new) result ≡ book_purchase line key units self.old }
         ensures grows { Grows self.old self.new }
+        ensures entered { OnOk result (length self.old.1 < length self.new.1) }
     {
         let bought = Lot::new(LotRow {
             key,
@@ -77,9 +78,11 @@ impl Booked {
     }
 
     fn reduce<P: Policy>(&mut self, line: u32, asked: &Reduction<P>) -> Result<(), Refusal>
+        requires some { 1 ≤ asked.now.units }
         requires room { HasRoom self.old }
         ensures defined { map_ok (λ _. self.new) result ≡ book_reduction (P.Policy.order asked.now.policy.now) line asked.now.wanted asked.now.units self.old }
         ensures grows { Grows self.old self.new }
+        ensures entered { OnOk result (length self.old.1 < length self.new.1) }
     {
         let draws = self.lots.reduce(asked)?;
         self.enter_draws(line, draws.as_slice());
@@ -99,6 +102,7 @@ impl Booked {
         requires serials { HasSerials self.old }
         ensures defined { map_ok (λ _. self.new) result ≡ book_kind (P.Policy.order policy.now) day posting.now.line posting.now.account posting.now.kind self.old }
         ensures grows { Grows self.old self.new }
+        ensures entered { OnOk result (length self.old.1 < length self.new.1) }
     {
         let Posting {
             line,
@@ -170,6 +174,7 @@ impl Booked {
         requires serials { HasSerials self.old }
         ensures defined { map_ok (λ _. self.new) result ≡ book_posting (P.Policy.order policy.now) day posting.now self.old }
         ensures grows { Grows self.old self.new }
+        ensures entered { OnOk result (length self.old.1 < length self.new.1) }
     {
         self.book_kind(policy, day, posting)
             .map_err(|refusal| refusal.on(posting.line))

@@ -1,5 +1,5 @@
 // A draft, and booking one whole.
-ghost use Rattle.std.specs.Prelude.{◌≡◌, ◌+◌, ◌≤◌, true, length, IfOk};
+ghost use Rattle.std.specs.Prelude.{◌≡◌, ◌+◌, ◌≤◌, true, length, IfOk, OnOk};
 ghost use Rattle.std.specs.List.{list_all};
 ghost use Rattle.stock.specs.Promises.{map_ok};
 ghost use Rattle.stock.specs.Tables.{last_serial};
@@ -39,6 +39,7 @@ impl Booked {
         requires serials { self.old.0.next + 288 ≤ last_serial }
         ensures defined { map_ok (λ _. self.new) result ≡ book_postings (P.Policy.order policy.now) day self.old postings.now }
         ensures serials { self.new.0.next + length self.old.1 ≤ self.old.0.next + length self.new.1 }
+        ensures entered { OnOk result (length self.old.1 + length postings.now ≤ length self.new.1) }
     {
         for posting in postings {
             self.book_posting(policy, day, posting)?;
@@ -58,6 +59,7 @@ pub fn book<P: Policy>(
     requires { lots.now.next + 288 ≤ last_serial }
     ensures defined { result ≡ book_draft (P.Policy.order policy.now) day lots.now postings.now }
     ensures serials { IfOk result (λ b. b.0.next ≤ lots.now.next + length b.1) }
+    ensures entered { IfOk result (λ b. length postings.now ≤ length b.1) }
 {
     let mut booked = Booked {
         lots: lots.duplicate(),

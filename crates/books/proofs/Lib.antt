@@ -1,4 +1,5 @@
 pub mod Firsts
 pub mod Nested
+pub mod Tests
 pub mod Slips
 pub mod Lending

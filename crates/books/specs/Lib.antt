@@ -1,5 +1,6 @@
 pub mod States
 pub mod Calls
+pub mod Lending
 pub mod Lookups
 pub mod Holdings
 pub mod Conditions

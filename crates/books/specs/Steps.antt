@@ -38,10 +38,12 @@ pub record FirstMet (ts : List Test) (t : Test) : Type 0 where
   pub is_met : t.met ≡ true
 
 -- The answer is the first refusal of its table that the call meets, and then nothing changes; a call that meets none is carried out.
+abbrev pub AnswersFirst : Order → State → Call → Outcome × State → Type 0
+AnswersFirst o s c answer =
+    ((t : Test) × FirstMet (tests o s c) t × (answer ≡ (Refused (fault_of t), s))) ⊎ (AllByRecursion (λ t. t.met ≡ false) (tests o s c) × (answer ≡ (reply s c, change o s c)))
+
 abbrev pub AnswersFirstMet : Type 0
-AnswersFirstMet =
-    (o : Order) (s : State) (c : Call)
-    → ((t : Test) × FirstMet (tests o s c) t × (step o s c ≡ (Refused (fault_of t), s))) ⊎ (AllByRecursion (λ t. t.met ≡ false) (tests o s c) × (step o s c ≡ (reply s c, change o s c)))
+AnswersFirstMet = (o : Order) (s : State) (c : Call) → AnswersFirst o s c (step o s c)
 
 -- both numbers lie between two others
 abbrev pub both_between : ℕ → ℕ → ℕ → ℕ → Bool

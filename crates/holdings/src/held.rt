@@ -50,6 +50,13 @@ impl Holdings {
         }
     }
 
+    // What is held once a draft is settled.
+    pub fn of(balances: Balances, lots: LotTable) -> Holdings
+        ensures { result ≡ record { balances = balances; table = lots } }
+    {
+        Holdings { balances, lots }
+    }
+
     pub fn lots(&self) -> &LotTable
         ensures { result.now ≡ self.now.table }
     {

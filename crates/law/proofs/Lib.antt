@@ -4,7 +4,6 @@ pub mod Plains
 pub mod Fills
 pub mod Serials
 pub mod Reaching
-pub mod Tests
 pub mod Postings
 pub mod Limits
 pub mod Runs

@@ -26,7 +26,7 @@ use Rattle.books.specs.Refusals.{if_given, cost_fields, braces_fields, cost_not_
 use Rattle.books.specs.Changes.{cost_of, kind_with_braces, kind_of_amount, posting_of}
 use Rattle.law.proofs.Plains.{AccountThere, PlaceThere, EntryThere}
 use Rattle.law.proofs.Serials.{SomeUnits, AllSome}
-use Rattle.law.proofs.Tests.{Unmet, all_front, all_right, number_there}
+use Rattle.books.proofs.Tests.{Unmet, all_front, all_right, number_there}
 
 -- there are at most 16 commodities and 64 accounts
 pub record Few (k : Names) : Type 0 where

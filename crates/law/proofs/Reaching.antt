@@ -21,7 +21,7 @@ use Rattle.booking.specs.Booking.{at_line, or_else, first_fault}
 use Rattle.law.specs.Histories.{opened_by_kind}
 use Rattle.law.specs.Reductions.{draws_among, KindDraws, DrawsByPolicy, AsksTooMany, IsUnsettled, Reaches}
 use Rattle.law.proofs.Serials.{Sound, AllSome, kind_sound}
-use Rattle.law.proofs.Tests.{refusal_number, fault_number}
+use Rattle.books.proofs.Tests.{refusal_number, fault_number}
 use Rattle.std.proofs.lemmas.Option.{none-some}
 
 -- the entries of draws are those draws

@@ -1,5 +1,5 @@
 -- What the record holds after a run.
-use Rattle.std.proofs.Common.{rules, tests, ◌≡◌, ℕ, ◌+◌, ◌≤◌, Bool, true, false, cond, not, ◌&&◌, ◌||◌, eqb, leb, List, [], ◌∷◌, ◌++◌, map, length, take, drop, is_some, Some, None, Option, sym, refl, ap, ◌∙◌, subst, arith}
+use Rattle.std.proofs.Common.{rules, tests, ◌≡◌, ℕ, ◌+◌, ◌≤◌, Bool, true, false, cond, not, ◌&&◌, ◌||◌, eqb, leb, List, [], ◌∷◌, ◌++◌, length, take, drop, is_some, Some, None, Option, sym, refl, ap, ◌∙◌, subst, arith}
 use Rattle.std.proofs.lemmas.Bool.Decides.{nat_tests}
 use Rattle.std.specs.List.{AllByRecursion}
 use Rattle.std.proofs.lemmas.List.{length-append, length-map, length-take-le}
@@ -11,24 +11,22 @@ use Rattle.lots.specs.Orders.{Order, Keeps}
 use Rattle.record.specs.declared.rows.Row.{Row}
 use Rattle.record.specs.Layout.{header_length, first_free, header_bytes, rows_bytes}
 use Rattle.refusal.specs.Faults.{fault_at}
-use Rattle.booking.specs.Booking.{at_line, first_fault}
-use Rattle.booking.specs.Balances.{first_met}
 use Rattle.booking.specs.Rows.{row_of, rows_of}
 use Rattle.booking.specs.declared.draft.Draft.{Draft}
 use Rattle.books.specs.States.{State, empty_ledger}
 use Rattle.books.specs.Calls.{Call, settling, writing_header}
 use Rattle.books.specs.Conditions.{no_such_draft, record_too_short}
-use Rattle.books.specs.Refusals.{first_fault_met, if_given, draft_entries, whole_draft_tests, draft_tests, refusal}
+use Rattle.books.specs.Refusals.{first_fault_met, if_given, draft_tests, refusal}
 use Rattle.books.specs.Changes.{settled_entries, after_settling}
 use Rattle.books.specs.Steps.{answered, step, outcomes}
 use Rattle.books.specs.Recording.{header_of, transaction_of, draft_rows, record_after_settling, record_change, record_answered, record_after_call, record_after_calls}
-use Rattle.books.proofs.Nested.{draft_first}
 use Rattle.law.specs.Histories.{Settlement, History, accepted, with_settlement, after_accepted, after_call, history_after, all_entries, all_rows}
-use Rattle.law.specs.Records.{writes, any_wrote, recorded, LentWithin, lend_within, RecordStands}
+use Rattle.books.specs.Lending.{LentWithin}
+use Rattle.law.specs.Records.{writes, any_wrote, recorded, RecordStands}
 use Rattle.law.proofs.Sums.{joined_push}
-use Rattle.booking.proofs.Filling.{length_complete}
 use Rattle.std.proofs.Math.Bool.{or_assoc}
-use Rattle.law.proofs.Tests.{none_met, no_line, both_none, unrefused}
+use Rattle.books.proofs.Lending.{room_for_draft}
+use Rattle.books.proofs.Tests.{unrefused}
 use Rattle.law.proofs.Runs.{Good, history, reply_accepted, answered_kept, empty_good}
 use Rattle.law.proofs.Bytes.{headed_over, recorded_behind, untouched}
 
@@ -40,17 +38,6 @@ rows_count (x ∷ xs) =
     let a = length-append (rows_of x.transaction x.entries) (all_rows xs) in
     let b = length-append x.entries (all_entries xs) in
     let c = length-map x.entries (row_of x.transaction) in
-    omega arith
-
--- a settling that is accepted has room for the header and all rows
-room_for_draft : (o : Order) (s : State) (lent : ℕ) (d : Draft) → first_fault_met (draft_tests o s lent d) ≡ None → first_free (s.rows + length (settled_entries o s.books.table d)) ≤ lent
-room_for_draft o s lent d e =
-    let booked = draft_entries o s d in
-    let whole = whole_draft_tests s lent d booked in
-    let parts = both_none (first_fault o d.date s.books.table d.postings) (at_line d.line (first_met whole)) (sym (draft_first o s lent d) ∙ e) in
-    let unmet = none_met whole (no_line d.line (first_met whole) parts.1) in
-    let room = leb-true (first_free (s.rows + length booked)) lent (not-false (leb (first_free (s.rows + length booked)) lent) unmet.1.1.1.0) in
-    let same = length_complete booked in
     omega arith
 
 module _ (o : Order) (start : List ℕ) where
@@ -160,13 +147,3 @@ module _ (o : Order) (start : List ℕ) where
 
 pub record_stands : RecordStands
 record_stands o keeps calls book lent = run_holds o book keeps calls false empty_ledger [] [] book lent empty_good (record { is = refl; early = λ _. refl })
-
--- calls that are lent no more than there is
-pub lent_within : (size : ℕ) (calls : List Call) → AllByRecursion (LentWithin size) (map (lend_within size) calls)
-lent_within size [] = tt
-lent_within size (c ∷ cs) = (at c, lent_within size cs)
-  where
-    at : (c : Call) → LentWithin size (lend_within size c)
-    at (settling slip lent) = omega arith
-    at (writing_header lent) = omega arith
-    at _ = tt

@@ -44,7 +44,7 @@ use Rattle.law.proofs.Plains.{EntryThere, entries_weigh, balances_length, balanc
 use Rattle.law.proofs.Fills.{complete_balances, complete_sum, complete_lots_weight, complete_there, complete_all}
 use Rattle.law.proofs.Serials.{Sound, bears_more, postings_sound, postings_bear}
 use Rattle.law.proofs.Reaching.{draft_draws, too_many_reached, too_many_reaching, unsettled_reached, unsettled_reaching}
-use Rattle.law.proofs.Tests.{fault_number, Unmet, unrefused, none_met, no_line, none_met_at, all_right, both_none, number_differs}
+use Rattle.books.proofs.Tests.{fault_number, Unmet, unrefused, none_met, no_line, none_met_at, all_right, both_none, number_differs}
 use Rattle.law.proofs.Limits.{Within, postings_within, well_kept}
 use Rattle.law.proofs.Postings.{Few, PostingThere, DraftThere, entries_there, all_some, joins_there}
 

@@ -13,7 +13,8 @@ use Rattle.books.specs.States.{State}
 use Rattle.books.specs.Calls.{Call, opening}
 use Rattle.books.specs.Refusals.{tests_at, refusal, first_fault_met}
 use Rattle.books.specs.Changes.{change, reply}
-use Rattle.books.specs.Steps.{answered}
+use Rattle.books.specs.Steps.{answered, step, AnswersFirst}
+use Rattle.books.proofs.Firsts.{answers_first_met}
 use Rattle.books.proofs.Nested.{first_at}
 use Rattle.ledger.specs.Answers.{carried_out, outcome_of}
 use Rattle.ledger.specs.CallTables.{opening_tests}
@@ -43,3 +44,9 @@ module _ {P : Type 0} (order : P → Order) (l : Kept P) (c : Call) (line : ℕ)
       by : (r : Option Refusal) → first_met ts ≡ r → checked ≡ unless r x → Ok y ≡ result_map_both (λ z. z) (fault_at line) checked → out ≡ reply l.state c → k ≡ in_state l t → (y ≡ x → t ≡ change (order l.policy) l.state c) → (out, k) ≡ carried_out order l c
       by None met is told replied left changed = rw (replied, left, changed (cc)) (by_refusal None met)
       by (Some r) met is told replied left changed = cc
+
+-- what is carried out answers the first refusal of its table
+pub answers_first : {P : Type 0} (order : P → Order) (l : Kept P) (c : Call) {x : Outcome} {k : Kept P} → (x, k) ≡ carried_out order l c → AnswersFirst (order l.policy) l.state c (x, k.state)
+answers_first {P} order l c {x} {k} e =
+    let same : (x, k.state) ≡ step (order l.policy) l.state c = ap (λ (r : Outcome × Kept P). (r.0, r.1.state)) e in
+    rw same (answers_first_met (order l.policy) l.state c)

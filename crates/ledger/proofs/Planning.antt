@@ -1,8 +1,9 @@
 -- What settling a draft will leave: booked, weighed, and asked for room.
-use Rattle.std.proofs.Common.{◌≡◌, ℕ, List, ℤ, Some, None, Ok, Err, Option, Result, refl, arith}
+use Rattle.std.proofs.Common.{◌≡◌, ℕ, ◌+◌, Bool, true, false, List, [], ◌∷◌, ℤ, Some, None, Ok, Err, Option, Result, refl, arith}
 use Rattle.std.proofs.lemmas.Grind.{common_steps}
 use Rattle.std.specs.Result.{result_map_both, IsErrAnd}
 use Rattle.refusal.specs.declared.Refusal.{Refusal}
+use Rattle.refusal.specs.declared.Refusal.TheVariants.{NoSuchDraft}
 use Rattle.refusal.specs.declared.Fault.{Fault}
 use Rattle.refusal.specs.Faults.{fault_at}
 use Rattle.lots.specs.Orders.{Order}
@@ -10,15 +11,20 @@ use Rattle.stock.specs.Promises.{map_ok}
 use Rattle.stock.specs.Tables.{Table}
 use Rattle.booking.specs.declared.draft.Draft.{Draft}
 use Rattle.booking.specs.declared.entry.Entry.{Entry}
+use Rattle.booking.specs.declared.entry.Transaction.{Transaction}
 use Rattle.booking.specs.declared.posting.Posting.{Posting}
+use Rattle.booking.specs.Balances.{first_met}
 use Rattle.booking.specs.Booking.{table_after, first_fault}
 use Rattle.booking.specs.Stages.{unless, book_draft}
 use Rattle.books.specs.States.{State}
-use Rattle.books.specs.Refusals.{draft_entries}
+use Rattle.books.specs.Conditions.{no_such_draft}
+use Rattle.books.specs.Refusals.{draft_entries, draft_tests, first_fault_met}
+use Rattle.books.specs.Recording.{transaction_of}
 use Rattle.books.proofs.Nested.{draft_first}
 use Rattle.ledger.specs.Kept.{Kept}
 use Rattle.ledger.proofs.Weighing.{passed_is}
-use Rattle.ledger.specs.Settling.{weighed_draft, planned}
+use Rattle.ledger.specs.declared.settling.Plan.{Plan}
+use Rattle.ledger.specs.Settling.{weighed_draft, planned, planned_for}
 
 -- booked upon the lots of a ledger, told by its parts
 pub booked_there : {P : Type 0} (order : P → Order) {k l : Kept P} {t : Table} {r : Result (Table × List Entry) Fault} (day : ℕ) (ps : List Posting) → k ≡ l → t ≡ k.state.books.table → r ≡ book_draft (order k.policy) day t ps → r ≡ book_draft (order l.policy) day l.state.books.table ps
@@ -27,6 +33,11 @@ booked_there order day ps same there is = cc
 pub fault_stays : {X : Type 0} (r : Result X Fault) {w : Result X Fault} {f : Fault} → IsErrAnd r (λ d. d ≡ f) → Err f ≡ w → r ≡ w
 fault_stays (Ok x) same is = absurd same
 fault_stays (Err d) same is = cc
+
+-- what a check found, behind the report of its fault
+pub passed_report : {X Y : Type 0} (line : ℕ) (f : X → Y) (r : Result X Refusal) {x : X} {w : Result Y Refusal} → Ok x ≡ result_map_both (λ z. z) (fault_at line) r → map_ok f r ≡ w → Ok (f x) ≡ w
+passed_report line f (Ok x) told is = cc
+passed_report line f (Err e) told is = cc
 
 module _ (o : Order) (s : State) (lent : ℕ) (d : Draft) where
   abbrev es : List Entry
@@ -49,9 +60,20 @@ module _ (o : Order) (s : State) (lent : ℕ) (d : Draft) where
       let same = passed_is (first_fault o d.date s.books.table d.postings) booked b is in
       grind (arith, common_steps)
 
-  pub planned_as : {b : Table × List Entry} {X : Type 0} (r : Result X Refusal) {x : X} (g : X → List Entry × List ℤ) → Ok b ≡ book_draft o d.date s.books.table d.postings → map_ok g r ≡ weighed_draft s lent d b.1 → Ok x ≡ result_map_both (λ x. x) (fault_at d.line) r → Ok ((b.0, (g x).0), (g x).1) ≡ planned o s lent d
-  planned_as {b} (Err e) {x} g is weighed told = cc
-  planned_as {b} (Ok y) {x} g is weighed told =
+  pub planned_as : {b : Table × List Entry} {X : Type 0} {t : Transaction} (r : Result X Refusal) {x : X} (g : X → List Entry × List ℤ) → t ≡ transaction_of (s.transactions + 1) d → Ok b ≡ book_draft o d.date s.books.table d.postings → map_ok g r ≡ weighed_draft s lent d b.1 → Ok x ≡ result_map_both (λ x. x) (fault_at d.line) r → Ok (record { transaction = t; booked = (b.0, (g x).0); balances = (g x).1 }) ≡ planned o s lent d
+  planned_as {b} {X} {t} (Err e) {x} g numbered is weighed told = cc
+  planned_as {b} {X} {t} (Ok y) {x} g numbered is weighed told =
       let first = draft_first o s lent d in
       let same = passed_is (first_fault o d.date s.books.table d.postings) booked b is in
       grind (arith, common_steps)
+
+-- a settling whose slip has a draft, told by the draft
+module _ (o : Order) (s : State) (slip lent : ℕ) where
+  pub planned_where : {d : Draft} (r : Result Plan Fault) → Ok (Some d) ≡ unless (first_met ((NoSuchDraft, no_such_draft s slip) ∷ [])) s.draft → r ≡ planned o s lent d → map_ok Some r ≡ planned_for o s slip lent
+  planned_where {d} r there is = by (no_such_draft s slip) refl s.draft refl (cc) (first_fault_met (draft_tests o s lent d)) refl
+    where
+      by : (b : Bool) → no_such_draft s slip ≡ b → (x : Option Draft) → s.draft ≡ x → Ok (Some d) ≡ unless (first_met ((NoSuchDraft, b) ∷ [])) x → (q : Option Fault) → first_fault_met (draft_tests o s lent d) ≡ q → map_ok Some r ≡ planned_for o s slip lent
+      by true other x drafted told q met = cc
+      by false other None drafted told q met = cc
+      by false other (Some d') drafted told None met = rw (is, other, drafted) (cc)
+      by false other (Some d') drafted told (Some f) met = rw (is, other, drafted) (cc)

@@ -1,24 +1,56 @@
--- What a draft comes to before anything is changed.
-use Rattle.std.specs.Prelude.{ℕ, List, ℤ, Result}
+-- What a draft comes to before anything is changed, and what carrying that out leaves.
+use Rattle.std.specs.Prelude.{◌≡◌, ℕ, ◌+◌, ◌≤◌, List, length, ℤ, None, Ok, Option, Result}
+use Rattle.std.specs.Option.{option_map}
 use Rattle.refusal.specs.declared.Refusal.{Refusal}
 use Rattle.refusal.specs.declared.Fault.{Fault}
 use Rattle.lots.specs.Orders.{Order}
-use Rattle.stock.specs.Tables.{Table}
+use Rattle.record.specs.Layout.{room_for}
 use Rattle.booking.specs.declared.draft.Draft.{Draft}
 use Rattle.booking.specs.declared.entry.Entry.{Entry}
 use Rattle.booking.specs.Balances.{first_met, balances_after}
 use Rattle.booking.specs.Stages.{unless}
 use Rattle.booking.specs.Weighing.{complete}
+use Rattle.books.specs.Calls.{settling}
 use Rattle.books.specs.States.{State}
 use Rattle.books.specs.Changes.{lots_after_draft, settled_entries}
-use Rattle.books.specs.Refusals.{first_fault_met, whole_draft_tests, draft_tests}
+use Rattle.books.specs.Recording.{transaction_of}
+use Rattle.books.specs.Refusals.{first_fault_met, whole_draft_tests, draft_tests, refusal}
+use Rattle.ledger.specs.declared.settling.Plan.{Plan}
 
 -- booked: its entries with the blank filled, and the plain balances after them
 abbrev pub weighed_draft : State → ℕ → Draft → List Entry → Result (List Entry × List ℤ) Refusal
 weighed_draft s lent d es = unless (first_met (whole_draft_tests s lent d es)) (complete es, balances_after s.books.balances (complete es))
 
--- whole: the lots, the entries and the plain balances that settling leaves
-abbrev pub planned : Order → State → ℕ → Draft → Result ((Table × List Entry) × List ℤ) Fault
-planned o s lent d =
-    unless (first_fault_met (draft_tests o s lent d))
-    ((lots_after_draft o s.books.table d, settled_entries o s.books.table d), balances_after s.books.balances (settled_entries o s.books.table d))
+-- the transaction that a draft becomes, with the lots, the entries and the plain balances that settling leaves
+abbrev pub plan_of : Order → State → Draft → Plan
+plan_of o s d = record {
+  transaction = transaction_of (s.transactions + 1) d;
+  booked = (lots_after_draft o s.books.table d, settled_entries o s.books.table d);
+  balances = balances_after s.books.balances (settled_entries o s.books.table d);
+}
+
+-- unless the draft meets a refusal
+abbrev pub planned : Order → State → ℕ → Draft → Result Plan Fault
+planned o s lent d = unless (first_fault_met (draft_tests o s lent d)) (plan_of o s d)
+
+-- of the draft of a slip; where there is none, the settling is refused
+abbrev pub planned_for : Order → State → ℕ → ℕ → Result (Option Plan) Fault
+planned_for o s slip lent = unless (refusal o s (settling slip lent)) (option_map (plan_of o s) s.draft)
+
+-- A plan that nothing stands in the way of: the record has room, it has an entry, and each lot that was ever opened has a row.
+pub record CanBeDone (s : State) (lent : ℕ) (p : Plan) : Type 0 where
+  pub room : room_for lent (s.rows + length p.booked.1) ≡ Ok tt
+  pub some : 1 ≤ length p.booked.1
+  pub serials : p.booked.0.next ≤ s.rows + length p.booked.1 + 1
+
+-- what a plan leaves
+abbrev pub after_plan : State → Plan → State
+after_plan s p = record {
+  names = s.names;
+  books = record { balances = p.balances; table = p.booked.0 };
+  draft = None;
+  last_date = p.transaction.date;
+  last_rank = 2;
+  transactions = s.transactions + 1;
+  rows = s.rows + length p.booked.1;
+}

@@ -63,7 +63,7 @@ impl<P: Policy> Ledger<P> {
     }
 
     // Holds an amount to what the accounts under the named one hold together.
-    pub(crate) fn assert_balance(
+    pub fn assert_balance(
         &mut self,
         source: u32,
         date: u32,
@@ -105,7 +105,7 @@ impl<P: Policy> Ledger<P> {
     }
 
     // Closes an account that is empty.
-    pub(crate) fn close(&mut self, source: u32, date: u32, account: &[u8]) -> Result<(), Fault>
+    pub fn close(&mut self, source: u32, date: u32, account: &[u8]) -> Result<(), Fault>
         ensures { (outcome_of (λ _. Done) result, self.new) ≡ carried_out P.Policy.order self.old (closing source date account.now) }
     {
         let number = reported(source, self.check_closing(date, account))?;

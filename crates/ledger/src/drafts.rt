@@ -46,7 +46,7 @@ impl<P: Policy> Ledger<P> {
     }
 
     // Starts an empty draft and hands out its slip.
-    pub(crate) fn begin(&mut self, source: u32, date: u32, flag: Flag) -> Result<Slip, Fault>
+    pub fn begin(&mut self, source: u32, date: u32, flag: Flag) -> Result<Slip, Fault>
         ensures { (outcome_of (λ slip. Begun slip.number) result, self.new) ≡ carried_out P.Policy.order self.old (beginning source date flag) }
     {
         reported(source, self.check_beginning(date))?;
@@ -54,7 +54,7 @@ impl<P: Policy> Ledger<P> {
     }
 
     // Throws the draft of a slip away; refused, the slip comes back.
-    pub(crate) fn tear(&mut self, slip: Slip) -> Result<(), (Slip, Fault)>
+    pub fn tear(&mut self, slip: Slip) -> Result<(), (Slip, Fault)>
         ensures answer { (outcome_with_slip (λ _. Done) result, self.new) ≡ carried_out P.Policy.order self.old (tearing slip.number) }
         ensures slip { GivesBack slip result }
     {

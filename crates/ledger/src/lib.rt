@@ -15,6 +15,7 @@ mod fault;
 mod lookups;
 pub mod making;
 pub mod naming;
+pub mod performing;
 pub mod posting;
 pub mod questions;
 pub mod rank;

@@ -1,4 +1,8 @@
 // What several calls look up: the draft of a slip, a declared commodity, an account that is open.
+ghost use Rattle.std.specs.Prelude.{◌≡◌, ◌∷◌, [], Some};
+ghost use Rattle.stock.specs.Promises.{map_ok};
+ghost use Rattle.booking.specs.Balances.{first_met};
+ghost use Rattle.booking.specs.Stages.{unless};
 ghost use Rattle.refusal.specs.declared.Refusal.TheVariants.{NoSuchDraft, CommodityNotDeclared, AccountNotOpen};
 ghost use Rattle.books.specs.Checks.{Checks, Finds};
 ghost use Rattle.books.specs.Conditions.{no_such_draft, not_declared, not_open};
@@ -6,19 +10,26 @@ ghost use Rattle.books.specs.Lookups.{commodity_number, open_account, number_or_
 
 use crate::Ledger;
 use crate::slip::Slip;
-use drafting::checks::refuse_unless;
+use booking::draft::Draft;
 use lots::policy::Policy;
 use refusal::Refusal;
 
 impl<P: Policy> Ledger<P> {
-    // 2
+    // 2: the draft of a slip.
+    pub(crate) fn draft_of(&self, slip: &Slip) -> Result<&Draft, Refusal>
+        ensures { map_ok (λ d. Some d.now) result ≡ unless (first_met ((NoSuchDraft, no_such_draft self.now.state slip.now.number) ∷ [])) self.now.state.draft }
+    {
+        self.draft
+            .as_ref()
+            .filter(|_| slip.number == self.transactions + 1)
+            .ok_or(Refusal::NoSuchDraft)
+    }
+
     pub(crate) fn check_slip(&self, slip: &Slip) -> Result<(), Refusal>
         ensures { Checks NoSuchDraft (no_such_draft self.now.state slip.now.number) result }
     {
-        refuse_unless(
-            self.draft.is_some() && slip.number == self.transactions + 1,
-            Refusal::NoSuchDraft,
-        )
+        self.draft_of(slip)?;
+        Ok(())
     }
 
     // 14: the number of a commodity.

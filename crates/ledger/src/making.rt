@@ -10,7 +10,7 @@ use lots::policy::Policy;
 
 impl<P: Policy> Ledger<P> {
     // Nothing is named, booked or drafted yet.
-    pub(crate) fn new(policy: P) -> Ledger<P>
+    pub fn new(policy: P) -> Ledger<P>
         ensures { result ≡ record { policy = policy; state = empty_ledger } }
     {
         Ledger {

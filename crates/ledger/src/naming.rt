@@ -64,7 +64,7 @@ impl<P: Policy> Ledger<P> {
     }
 
     // Adds a commodity and answers its number.
-    pub(crate) fn declare(&mut self, source: u32, date: u32, name: &[u8]) -> Result<u8, Fault>
+    pub fn declare(&mut self, source: u32, date: u32, name: &[u8]) -> Result<u8, Fault>
         ensures { (outcome_of Declared result, self.new) ≡ carried_out P.Policy.order self.old (declaring source date name.now) }
     {
         reported(source, self.check_declaring(date, name))?;
@@ -118,7 +118,7 @@ impl<P: Policy> Ledger<P> {
     }
 
     // Adds an account, with one own commodity or none, and answers its number.
-    pub(crate) fn open(
+    pub fn open(
         &mut self,
         source: u32,
         date: u32,

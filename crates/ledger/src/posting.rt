@@ -234,7 +234,7 @@ impl<P: Policy> Ledger<P> {
     }
 
     // Adds a posting to the draft of a slip; without an amount, a blank.
-    pub(crate) fn post(
+    pub fn post(
         &mut self,
         slip: &Slip,
         source: u32,

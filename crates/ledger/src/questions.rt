@@ -29,21 +29,21 @@ impl<P: Policy> Ledger<P> {
     }
 
     // The plain balance and the units of the open lots.
-    pub(crate) fn holding(&self, account: u16, commodity: u8) -> Result<i64, Fault>
+    pub fn holding(&self, account: u16, commodity: u8) -> Result<i64, Fault>
         ensures { result ≡ holding_of self.now.state account commodity }
     {
         self.check_there(account, commodity)?;
         Ok(self.holdings.holding(account, commodity))
     }
 
-    pub(crate) fn plain_balance(&self, account: u16, commodity: u8) -> Result<i64, Fault>
+    pub fn plain_balance(&self, account: u16, commodity: u8) -> Result<i64, Fault>
         ensures { result ≡ plain_balance_of self.now.state account commodity }
     {
         self.check_there(account, commodity)?;
         Ok(self.holdings.plain_balance(account, commodity))
     }
 
-    pub(crate) fn counts(&self) -> Counts
+    pub fn counts(&self) -> Counts
         ensures { result ≡ counts_of self.now.state }
     {
         Counts {
@@ -57,7 +57,7 @@ impl<P: Policy> Ledger<P> {
     }
 
     // The open lot that bears a serial.
-    pub(crate) fn lot(&self, serial: u32) -> Result<LotRow, Fault>
+    pub fn lot(&self, serial: u32) -> Result<LotRow, Fault>
         ensures { result ≡ lot_of self.now.state serial }
     {
         self.holdings

@@ -12,7 +12,7 @@ use record::header::Header;
 use refusal::Fault;
 
 impl<P: Policy> Ledger<P> {
-    fn header(&self) -> Header
+    pub(crate) fn header(&self) -> Header
         ensures { result ≡ header_of (P.Policy.order self.now.policy) self.now.state }
     {
         Header {
@@ -23,7 +23,7 @@ impl<P: Policy> Ledger<P> {
     }
 
     // Writes the header for what is settled so far; refused, not a byte.
-    pub(crate) fn write_header(&self, book: &mut [u8]) -> Result<(), Fault>
+    pub fn write_header(&self, book: &mut [u8]) -> Result<(), Fault>
         ensures answer { (outcome_of (λ _. Done) result, self.now) ≡ carried_out P.Policy.order self.now (writing_header (length book.old)) }
         ensures book { book.new ≡ record_after_call (P.Policy.order self.now.policy) self.now.state (writing_header (length book.old)) book.old }
     {

@@ -8,3 +8,4 @@ invariant-loop-posting g l =
     (book_postings o l.day l.self (drop l.posting-index l.postings) ≡ book_postings o l.day l.initial.self l.postings)
     × (length l.self.1 + length l.self.0.lots ≤ 256 + 2 * l.posting-index)
     × (l.self.0.next + length l.initial.self.1 ≤ l.initial.self.0.next + length l.self.1)
+    × (length l.initial.self.1 + l.posting-index ≤ length l.self.1)
