@@ -1,7 +1,7 @@
--- A worked run under FIFO, and two settlings that are refused.
+-- A worked run under FIFO, and calls for other worked cases.
 use Rattle.std.specs.Prelude.{◌≡◌, ℕ, List, [], ◌∷◌, ◌++◌, replicate, ℤ, pos, neg_ℤ, Some, None, Ok, codes, Option}
 use Rattle.refusal.specs.declared.Refusal.{Refusal}
-use Rattle.refusal.specs.declared.Refusal.TheVariants.{NoSuchDraft, BadAccountName, GoesBack, AccountOpenedBefore, AccountNotOpen, NotBalanced, BlankCannotBeFilled, BalanceDiffers, AccountNotEmpty}
+use Rattle.refusal.specs.declared.Refusal.TheVariants.{NoSuchDraft, BadAccountName, GoesBack, AccountOpenedBefore, AccountNotOpen, BalanceDiffers, AccountNotEmpty}
 use Rattle.values.specs.declared.flag.Flag.TheVariants.{Complete, Incomplete}
 use Rattle.lots.specs.declared.rows.LotRow.{LotRow}
 use Rattle.lots.specs.Orders.{fifo, whole_lot}
@@ -35,7 +35,7 @@ eur = codes "EUR"
 abbrev sensor : List ℕ
 sensor = codes "SENSOR"
 
-abbrev plain : ℤ → Option AmountGiven
+abbrev pub plain : ℤ → Option AmountGiven
 plain number = Some (record { number = number; commodity = eur; braces = None })
 
 abbrev bought : ℕ → ℤ → Option AmountGiven
@@ -108,7 +108,7 @@ abbrev sensors_in : ℕ → ℕ → ℕ → ℕ → ℕ → LotRow
 sensors_in account cost date units serial = record { key = record { account = account; commodity = 2; cost = record { number = cost; commodity = 1 }; date = date }; units = units; serial = serial }
 
 -- a purchase of 2.50 at 3.33 against a posting to the bank
-abbrev against : Option AmountGiven → List Call
+abbrev pub against : Option AmountGiven → List Call
 against amount = names ++ (beginning 6 20240102 Complete ∷ posting 1 7 stock (bought 250 (pos 333)) ∷ posting 1 8 bank amount ∷ settling 1 10000 ∷ [])
 
 -- the example of the record's layout: four sensors, and a supplier's blank
@@ -137,6 +137,4 @@ pub record WorkedRun : Type 0 where
       ∷ entry 13 (Drew (record { lot = first_lot; units = 1000 })) ∷ entry 13 (Drew (record { lot = second_lot; units = 200 })) ∷ entry 14 (PlainAmount 2 (pos 30000) 1) ∷ entry 15 (Filled 3 (neg_ℤ (pos 300)) 1) ∷ []
   pub branches_are : outcomes fifo empty_ledger branches ≡ branched
   pub branch_lots_are : (state_after fifo empty_ledger branches).books.table.lots ≡ sensors_in 1 1000 20240102 500 1 ∷ sensors_in 4 1100 20231201 300 2 ∷ sensors_in 5 1000 20240102 100 3 ∷ []
-  pub against_an_amount : outcomes fifo empty_ledger (against (plain (neg_ℤ (pos 833)))) ≡ named ++ (Begun 1 ∷ Done ∷ Done ∷ refused NotBalanced 6 ∷ [])
-  pub against_a_blank : outcomes fifo empty_ledger (against None) ≡ named ++ (Begun 1 ∷ Done ∷ Done ∷ refused BlankCannotBeFilled 6 ∷ [])
   pub record_is : record_after_calls (whole_lot fifo) empty_ledger invoice (replicate 100 7) ≡ invoice_record ++ (7 ∷ 7 ∷ 7 ∷ 7 ∷ [])

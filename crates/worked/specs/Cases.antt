@@ -13,6 +13,12 @@ use Rattle.lots.specs.declared.rows.Key.{Key}
 use Rattle.matching.specs.declared.wanted.Draw.{Draw}
 use Rattle.matching.specs.declared.wanted.Wanted.{Wanted}
 use Rattle.stock.specs.Tables.{Table, no_lots, purchased, reduced}
+use Rattle.books.specs.declared.outcome.Outcome.{Outcome}
+use Rattle.books.specs.declared.outcome.Outcome.TheVariants.{Settled, Refused}
+use Rattle.books.specs.States.{empty_ledger}
+use Rattle.books.specs.Calls.{Call}
+use Rattle.books.specs.Steps.{outcomes}
+use Rattle.law.specs.Worked.{plain, against}
 use Rattle.weights.specs.Weights.{plain_weight, purchase_weight, draws_weigh}
 
 -- a case comes to a number (a date's, hundredths, ten-thousandths of a weight or a serial), or to the number of a refusal
@@ -66,6 +72,19 @@ first_serial (d ∷ ds) = pos d.lot.serial
 abbrev pub draws_first : Order → Wanted → ℕ → Answer
 draws_first o w u = answer first_serial (λ r. r) (reduced o w u two_lots).0
 
+-- settling
+
+-- what the last of calls on a new ledger answers
+abbrev pub last_answer : List Outcome → Answer
+last_answer [] = refused 0
+last_answer (Refused fault ∷ []) = refused (number_of fault.refusal)
+last_answer (Settled number ∷ []) = value (pos number)
+last_answer (x ∷ []) = value (pos 0)
+last_answer (x ∷ y ∷ ys) = last_answer (y ∷ ys)
+
+unfoldable pub settles : List Call → Answer
+settles calls = last_answer (outcomes fifo empty_ledger calls)
+
 abbrev pub cases : List (Answer × Answer)
 cases =
     (date_of (codes "2024-02-29"), value (pos 20240229))
@@ -85,6 +104,8 @@ cases =
     ∷ (weighs fifo any_lot 1500, refused 22)
     ∷ (weighs fifo any_lot 1400, value (neg_ℤ (pos 3490000)))
     ∷ (weighs strict any_lot 1400, refused 23)
+    ∷ (settles (against (plain (neg_ℤ (pos 833)))), refused 25)
+    ∷ (settles (against None), refused 26)
     ∷ []
 
 -- each comes out as worked by hand

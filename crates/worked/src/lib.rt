@@ -9,5 +9,5 @@ pub fn worked_cases() -> u32
     ensures worked { Worked }
     ensures count { result ≡ length cases }
 {
-    17
+    19
 }
