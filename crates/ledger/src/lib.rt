@@ -1,5 +1,5 @@
 // The ledger: its calls and its questions, for any booking policy. What each answers and leaves is defined in crate `books`.
-// The calls stay within the crate until the law over whole runs stands on a public call.
+// What any list of them leaves is in crate `runs`.
 #![tactic(auto)]
 
 use crate::rank::Rank;
