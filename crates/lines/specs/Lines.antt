@@ -6,6 +6,7 @@ use Rattle.values.specs.Names.{split_at}
 use Rattle.fields.specs.Results.{and_then}
 use Rattle.refusal.specs.declared.Fault.{Fault}
 use Rattle.refusal.specs.declared.Refusal.TheVariants.{WrongByte}
+use Rattle.lines.specs.Cuts.{rest_at}
 use Rattle.lines.specs.Directives.{directive_line}
 use Rattle.lines.specs.Faults.{fault_on}
 use Rattle.lines.specs.Postings.{posting_of}
@@ -57,3 +58,11 @@ by_kind number line kind.Other = and_then (λ f. f) (other_line number line) (λ
 -- what the line of a number says, or its fault
 unfoldable pub line_says : ℕ → List ℕ → Result (Option Said) Fault
 line_says number line = and_then (fault_on number) (by_kind number line (line_kind line)) (λ s. Ok s)
+
+-- a posting line that belongs to no transaction: 4 if it has a wrong byte, else 5 at its first field
+abbrev pub stray : List ℕ → Option ℕ → LineFault
+stray line (Some place) = fault.WrongByte place
+stray line None = fault.Form (rest_at line 0).place
+
+unfoldable pub stray_fault : ℕ → List ℕ → Fault
+stray_fault number line = fault_on number (stray line (wrong_byte line))

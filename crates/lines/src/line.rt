@@ -4,8 +4,9 @@ ghost use Rattle.std.specs.Option.{option_map};
 ghost use Rattle.fields.specs.Results.{map_ok};
 ghost use Rattle.lines.specs.Grammar.{ReadsExactly};
 ghost use Rattle.lines.specs.Said.{said};
-ghost use Rattle.lines.specs.Lines.{line_kind, wrong_byte, unless_wrong, posting_line, other_line, by_kind, line_says};
+ghost use Rattle.lines.specs.Lines.{line_kind, wrong_byte, unless_wrong, posting_line, other_line, by_kind, line_says, stray_fault};
 
+use crate::cursor::Cursor;
 use crate::directive::Directive;
 use crate::directives::read_directive;
 use crate::fault::LineFault;
@@ -82,4 +83,13 @@ pub fn read_line<'a>(line: &'a [u8], number: u32) -> Result<Option<Directive<'a>
     ensures exactly { ReadsExactly number line.now (map_ok (option_map said) result) }
 {
     read_by_kind(line, number).map_err(|fault| fault.on(number))
+}
+
+// How a posting line is refused that belongs to no transaction.
+#[tactic(auto, unfolding(crate::specs::Lines::stray_fault))]
+pub fn stray_fault(line: &[u8], number: u32) -> Fault
+    ensures { result ≡ stray_fault number line.now }
+{
+    let first_field = LineFault::Form(Cursor::start(line).rest().place);
+    check_bytes(line).err().unwrap_or(first_field).on(number)
 }

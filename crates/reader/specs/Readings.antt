@@ -1,5 +1,5 @@
 -- A whole journal: line after line, and at its end the draft that is under way.
-use Rattle.std.specs.Prelude.{ℕ, ◌+◌, Bool, true, false, cond, List, [], ◌∷◌, ◌++◌, Some, None, Ok, Err, Option, Result}
+use Rattle.std.specs.Prelude.{ℕ, ◌+◌, Bool, true, false, cond, not, List, [], ◌∷◌, ◌++◌, Some, None, Ok, Err, Option, Result}
 use Rattle.refusal.specs.declared.Fault.{Fault}
 use Rattle.lots.specs.Orders.{Order}
 use Rattle.lines.specs.Lines.{lines_of, line_kind, journal_fault}
@@ -12,7 +12,7 @@ use Rattle.books.specs.States.{State, empty_ledger}
 use Rattle.books.specs.Steps.{state_after}
 use Rattle.reader.specs.declared.phase.Phase.{Phase}
 use Rattle.reader.specs.declared.phase.Phase.TheVariants.{Outside, InTransaction, Skipping}
-use Rattle.reader.specs.Turns.{Turn, line_turn, settling_turn}
+use Rattle.reader.specs.Turns.{Turn, quiet, line_turn, settling_turn}
 
 -- where the reader is, the calls that it made so far on a new ledger, and the outcomes so far
 pub record Reading : Type 0 where
@@ -43,6 +43,28 @@ ends_draft InTransaction (Some kind.Blank) = true
 ends_draft InTransaction (Some kind.Posting) = false
 ends_draft InTransaction (Some kind.Other) = true
 
+-- what the next step does: it settles a draft that is ended, or else takes the next line
+abbrev pub taking_turn : Order → State → ℕ → ℕ → Phase → List ℕ → Turn
+taking_turn o s lent number phase line = cond (ends_draft phase (Some (line_kind line))) (settling_turn o s lent) (line_turn o s number line phase (line_kind line))
+
+abbrev pub step_turn : Order → State → ℕ → ℕ → Phase → List (List ℕ) → Turn
+step_turn o s lent number phase [] = cond (ends_draft phase None) (settling_turn o s lent) (quiet Outside)
+step_turn o s lent number phase (l ∷ ls) = taking_turn o s lent number phase l
+
+-- no line is left, and no draft to end
+abbrev pub is_done : Phase → List (List ℕ) → Bool
+is_done phase [] = not (ends_draft phase None)
+is_done phase (l ∷ ls) = false
+
+-- the lines that it leaves, and the number of the first of them
+abbrev pub lines_left : Phase → List (List ℕ) → List (List ℕ)
+lines_left phase [] = []
+lines_left phase (l ∷ ls) = cond (ends_draft phase (Some (line_kind l))) (l ∷ ls) ls
+
+abbrev pub number_left : ℕ → Phase → List (List ℕ) → ℕ
+number_left number phase [] = number
+number_left number phase (l ∷ ls) = cond (ends_draft phase (Some (line_kind l))) number (number + 1)
+
 -- the draft that is ended is settled first, as a step of its own
 abbrev pub draft_ended : Order → ℕ → Reading → Option LineKind → Reading
 draft_ended o lent r k = cond (ends_draft r.phase k) (took r (settling_turn o (books o r) lent)) r
@@ -69,3 +91,9 @@ unless_too_long (Err f) r = record { phase = Outside; calls = []; outcomes = Ref
 -- what is read of a journal, each settling lent so many bytes of the record
 abbrev pub journal_read : Order → ℕ → List ℕ → Reading
 journal_read o lent journal = unless_too_long (journal_fault journal) (read_from o lent 1 unread (lines_of journal))
+
+-- outcomes written over places, as many as there are
+abbrev pub placed : List Outcome → List Outcome → List Outcome
+placed [] places = places
+placed (x ∷ xs) [] = []
+placed (x ∷ xs) (p ∷ ps) = x ∷ placed xs ps

@@ -3,9 +3,8 @@ use Rattle.std.specs.Prelude.{ℕ, ◌+◌, cond, List, [], ◌∷◌, Some, Non
 use Rattle.refusal.specs.declared.Fault.{Fault}
 use Rattle.std.specs.Option.{option_map}
 use Rattle.lots.specs.Orders.{Order}
-use Rattle.lines.specs.Cuts.{field_at}
 use Rattle.lines.specs.Faults.{fault_on}
-use Rattle.lines.specs.Lines.{wrong_byte, line_says}
+use Rattle.lines.specs.Lines.{line_says, stray_fault}
 use Rattle.lines.specs.Said.{Said, transaction, posting}
 use Rattle.lines.specs.declared.fault.LineFault.TheVariants as fault
 use Rattle.lines.specs.declared.line.LineKind.{LineKind}
@@ -58,14 +57,6 @@ directive_turn o s number (Err f) = refused f
 directive_turn o s number (Ok None) = quiet Outside
 directive_turn o s number (Ok (Some d)) = said_turn o s number d
 
--- a posting line that belongs to no transaction: 4 if it has a wrong byte, else 5 at its first field
-abbrev pub stray_fault : ℕ → List ℕ → Option ℕ → Fault
-stray_fault number line (Some place) = fault_on number (fault.WrongByte place)
-stray_fault number line None = fault_on number (fault.Form (field_at line 0).place)
-
-abbrev pub stray_turn : ℕ → List ℕ → Turn
-stray_turn number line = refused (stray_fault number line (wrong_byte line))
-
 -- a posting line of the transaction under way, which says a posting; if it is refused, the draft is torn
 abbrev pub posted : Order → State → Call → Turn
 posted o s c = record { calls = or_torn s c (step o s c).0; outcome = Some (step o s c).0; next = cond (accepted (step o s c).0) InTransaction Skipping }
@@ -83,7 +74,7 @@ settling_turn o s lent =
 -- what a line does depends on where the reader is and on the line's kind
 abbrev pub line_turn : Order → State → ℕ → List ℕ → Phase → LineKind → Turn
 line_turn o s number line phase kind.Blank = quiet Outside
-line_turn o s number line Outside kind.Posting = stray_turn number line
+line_turn o s number line Outside kind.Posting = refused (stray_fault number line)
 line_turn o s number line InTransaction kind.Posting = posting_turn o s number (line_says number line)
 line_turn o s number line Skipping kind.Posting = quiet Skipping
 line_turn o s number line phase kind.Other = directive_turn o s number (line_says number line)

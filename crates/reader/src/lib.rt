@@ -3,3 +3,5 @@
 
 mod asked;
 pub mod phase;
+pub mod reader;
+pub mod step;
