@@ -1,5 +1,5 @@
 -- A whole journal: line after line, and at its end the draft that is under way.
-use Rattle.std.specs.Prelude.{ℕ, ◌+◌, Bool, true, false, cond, not, List, [], ◌∷◌, ◌++◌, Some, None, Ok, Err, Option, Result}
+use Rattle.std.specs.Prelude.{ℕ, ◌+◌, ◌*◌, Bool, true, false, cond, not, List, [], ◌∷◌, ◌++◌, Some, None, Ok, Err, Option, Result}
 use Rattle.refusal.specs.declared.Fault.{Fault}
 use Rattle.lots.specs.Orders.{Order}
 use Rattle.lines.specs.Lines.{lines_of, line_kind, journal_fault}
@@ -65,6 +65,10 @@ abbrev pub number_left : ℕ → Phase → List (List ℕ) → ℕ
 number_left number phase [] = number
 number_left number phase (l ∷ ls) = cond (ends_draft phase (Some (line_kind l))) number (number + 1)
 
+-- how many steps there may be yet, with so many bytes left: two for each line, and one for a draft
+abbrev pub steps_left : Phase → ℕ → ℕ
+steps_left phase bytes = 2 * bytes + cond (ends_draft phase None) 1 0
+
 -- the draft that is ended is settled first, as a step of its own
 abbrev pub draft_ended : Order → ℕ → Reading → Option LineKind → Reading
 draft_ended o lent r k = cond (ends_draft r.phase k) (took r (settling_turn o (books o r) lent)) r
@@ -92,8 +96,3 @@ unless_too_long (Err f) r = record { phase = Outside; calls = []; outcomes = Ref
 abbrev pub journal_read : Order → ℕ → List ℕ → Reading
 journal_read o lent journal = unless_too_long (journal_fault journal) (read_from o lent 1 unread (lines_of journal))
 
--- outcomes written over places, as many as there are
-abbrev pub placed : List Outcome → List Outcome → List Outcome
-placed [] places = places
-placed (x ∷ xs) [] = []
-placed (x ∷ xs) (p ∷ ps) = x ∷ placed xs ps

@@ -1,8 +1,8 @@
 // The reader of a journal: a state machine that takes one step at a time.
-ghost use Rattle.std.specs.Prelude.{◌≡◌, ◌+◌, ◌≤◌, [], length, None};
+ghost use Rattle.std.specs.Prelude.{◌≡◌, ◌+◌, ◌<◌, ◌≤◌, false, [], length, None};
 ghost use Rattle.lines.specs.Lines.{lines_of};
 ghost use Rattle.reader.specs.Does.{Held, ledger_after, record_after_turn};
-ghost use Rattle.reader.specs.Readings.{ends_draft, is_done, taking_turn, step_turn, lines_left, number_left};
+ghost use Rattle.reader.specs.Readings.{ends_draft, is_done, taking_turn, step_turn, lines_left, number_left, steps_left};
 
 use crate::phase::Phase;
 use crate::step::{Step, directive_line, post_line, settle};
@@ -29,7 +29,7 @@ fn ends_draft(phase: Phase, kind: Option<LineKind>) -> bool
 }
 
 // Outside of a transaction no slip is held.
-fn let_none_go(slip: Option<Slip>)
+pub fn let_none_go(slip: Option<Slip>)
     requires { slip ≡ None }
 {
     if let Some(_slip) = slip {
@@ -129,6 +129,7 @@ impl<'a> Reader<'a> {
         ensures lines { lines_of self.new.rest.now ≡ lines_left self.old.phase (lines_of self.old.rest.now) }
         ensures number { self.new.number ≡ number_left self.old.number self.old.phase (lines_of self.old.rest.now) }
         ensures few { self.new.number + length self.new.rest.now ≤ 60001 }
+        ensures fewer { is_done self.old.phase (lines_of self.old.rest.now) ≡ false → steps_left self.new.phase (length self.new.rest.now) < steps_left self.old.phase (length self.old.rest.now) }
     {
         let phase = self.phase;
         let Some(cut) = split_line(self.rest) else {
