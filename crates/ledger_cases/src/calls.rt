@@ -101,9 +101,9 @@ fn braces<'a>(words: &'a [Word<'_>]) -> Option<GivenBraces<'a>> {
     Some(GivenBraces { cost, date })
 }
 
-// Braces that cannot be read make the row unreadable.
-fn given_braces<'a>(words: Option<&'a [Word<'_>]>) -> Option<Option<GivenBraces<'a>>> {
-    match words {
+// Nothing where there are no braces; braces that cannot be read make the row unreadable.
+fn braces_if_any<'a>(inner: Option<&'a [Word<'_>]>) -> Option<Option<GivenBraces<'a>>> {
+    match inner {
         None => Some(None),
         Some(words) => Some(Some(braces(words)?)),
     }
@@ -116,7 +116,7 @@ fn posting<'a>(words: &'a [Word<'_>], inner: Option<&'a [Word<'_>]>) -> Option<C
             let amount = GivenAmount {
                 number: signed(number)?,
                 commodity: commodity.name.as_slice(),
-                braces: given_braces(inner)?,
+                braces: braces_if_any(inner)?,
             };
             (slip, source, account, Some(amount))
         }

@@ -34,9 +34,9 @@ const ROW: [Field; 13] = [
     Field::Bytes(2),
 ];
 
-const HEADER_BYTES: usize = 24;
+pub const HEADER_BYTES: usize = 24;
 
-const ROW_BYTES: usize = 36;
+pub const ROW_BYTES: usize = 36;
 
 impl Field {
     fn len(self) -> usize {
@@ -77,14 +77,16 @@ pub fn show_header(book: &[u8], out: &mut String) -> anyhow::Result<()> {
     show_fields(book, &HEADER, out)
 }
 
-// Rows are counted from 1. Of a row beyond the record no field is shown.
+// Rows are counted from 1. A field that the record has no bytes for is not shown.
 pub fn show_row(book: &[u8], number: usize, out: &mut String) -> anyhow::Result<()> {
     write!(out, "row")?;
-    let before = number.saturating_sub(1).saturating_mul(ROW_BYTES);
-    let rest = book
-        .get(HEADER_BYTES.saturating_add(before)..)
-        .unwrap_or(&[]);
-    show_fields(rest, &ROW, out)
+    let Some(before) = number.checked_sub(1) else {
+        return Ok(());
+    };
+    let start = before
+        .saturating_mul(ROW_BYTES)
+        .saturating_add(HEADER_BYTES);
+    show_fields(book.get(start..).unwrap_or(&[]), &ROW, out)
 }
 
 // In hexadecimal, from one offset to before another.

@@ -13,14 +13,17 @@ mod trial;
 mod words;
 
 use std::io::Read;
+use table::sections_of;
+use tally::Tally;
+use trial::hold_section;
 
 fn main(rt: HostRuntime) -> anyhow::Result<()> {
     let heap = rt.alloc();
     let mut text = String::new(heap);
     rt.stdin().read_to_string(&mut text)?;
-    let mut tally = tally::Tally::new(heap);
-    for section in &table::sections_of(heap, text.as_str())? {
-        trial::hold_section(heap, section, &mut tally)?;
+    let mut tally = Tally::new(heap);
+    for section in &sections_of(heap, text.as_str())? {
+        hold_section(heap, section, &mut tally)?;
     }
     rt.print(tally.report()?)?;
     Ok(())

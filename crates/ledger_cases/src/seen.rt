@@ -1,4 +1,5 @@
 // What can be seen of a ledger and its record: the answer to every question, and every byte.
+use crate::fields::{HEADER_BYTES, ROW_BYTES};
 use books::outcome::Counts;
 use ledger::Ledger;
 use lots::policy::Policy;
@@ -17,12 +18,28 @@ struct Balances {
     plain: Result<i64, Fault>,
 }
 
+// What may change: nothing, what is declared and opened, the record's header, or what is booked and written.
+#[derive(Clone, Copy)]
+pub enum Change {
+    Nothing,
+    Names,
+    Header,
+    Bookings,
+}
+
 #[derive(Drop)]
 pub struct Seen {
     counts: Counts,
     balances: Vec<Balances>,
     lots: Vec<Result<LotRow, Fault>>,
     book: Vec<u8>,
+}
+
+// The offset behind so many rows.
+fn first_free(rows: u32) -> usize {
+    (rows as usize)
+        .saturating_mul(ROW_BYTES)
+        .saturating_add(HEADER_BYTES)
 }
 
 fn push_balances<P: Policy>(
@@ -68,13 +85,53 @@ impl Seen {
         })
     }
 
-    pub fn same_answers(&self, other: &Seen) -> bool {
-        self.counts == other.counts
-            && self.balances.as_slice() == other.balances.as_slice()
-            && self.lots.as_slice() == other.lots.as_slice()
+    fn same_answers(&self, before: &Seen) -> bool {
+        self.counts == before.counts
+            && self.balances.as_slice() == before.balances.as_slice()
+            && self.same_lots(before)
     }
 
-    pub fn same_bytes(&self, other: &Seen) -> bool {
-        self.book.as_slice() == other.book.as_slice()
+    fn same_lots(&self, before: &Seen) -> bool {
+        self.lots.as_slice() == before.lots.as_slice()
+    }
+
+    fn same_bytes(&self, before: &Seen) -> bool {
+        self.book.as_slice() == before.book.as_slice()
+    }
+
+    // A balance of what was not there before is a new answer; every other is as it was.
+    fn same_balances(&self, before: &Seen) -> bool {
+        self.balances
+            .iter()
+            .zip(before.balances.iter())
+            .all(|(now, then)| then.holding.is_err() || now == then)
+    }
+
+    // What is booked is counted as it was, whatever is named.
+    fn same_bookings(&self, before: &Seen) -> bool {
+        let counts = Counts {
+            commodities: self.counts.commodities,
+            accounts: self.counts.accounts,
+            ..before.counts
+        };
+        self.counts == counts && self.same_balances(before) && self.same_lots(before)
+    }
+
+    // Beside the header, only the rows written since are other bytes.
+    fn same_beside_rows(&self, before: &Seen) -> bool {
+        let old = first_free(before.counts.rows);
+        let new = first_free(self.counts.rows);
+        self.book.get(HEADER_BYTES..old) == before.book.get(HEADER_BYTES..old)
+            && self.book.get(new..) == before.book.get(new..)
+    }
+
+    // Whether no more than this has changed.
+    pub fn keeps_but(&self, change: Change, before: &Seen) -> bool {
+        match change {
+            Change::Nothing => self.same_answers(before) && self.same_bytes(before),
+            Change::Names => self.same_bookings(before) && self.same_bytes(before),
+            Change::Header => self.same_answers(before) && self.same_beside_rows(before),
+            Change::Bookings => self.same_beside_rows(before),
+        }
     }
 }

@@ -1,6 +1,7 @@
 // What a row asks for: a call, a question, or many transactions at once.
 use crate::calls::call_of;
-use crate::words::{Request, Word};
+use crate::seen::Change;
+use crate::words::Request;
 use books::call::Call;
 
 // Of the ledger or of its record. Offsets and rows are those of the record.
@@ -57,8 +58,9 @@ fn question_of(request: &Request<'_>) -> Option<Question> {
     }
 }
 
-fn filling_of<'a>(words: &'a [Word<'_>]) -> Option<Filling<'a>> {
-    let [times, date, account, commodity] = words else {
+fn filling_of<'a>(request: &'a Request<'_>) -> Option<Filling<'a>> {
+    let ("fill", [times, date, account, commodity]) = (request.verb, request.words.as_slice())
+    else {
         return None;
     };
     Some(Filling {
@@ -72,29 +74,25 @@ fn filling_of<'a>(words: &'a [Word<'_>]) -> Option<Filling<'a>> {
 impl<'a> Step<'a> {
     // None where the row cannot be read.
     pub fn of(request: &'a Request<'_>) -> Option<Step<'a>> {
-        if request.verb == "fill" {
-            return filling_of(request.words.as_slice()).map(Step::Filling);
+        if let Some(call) = call_of(request) {
+            return Some(Step::Call(call));
+        }
+        if request.inner().is_some() {
+            return None;
         }
         match question_of(request) {
             Some(question) => Some(Step::Question(question)),
-            None => call_of(request).map(Step::Call),
+            None => filling_of(request).map(Step::Filling),
         }
     }
 
-    // Whether, accepted, it may change what the questions answer.
-    pub fn may_change_answers(&self) -> bool {
-        matches!(
-            self,
-            Step::Filling(_)
-                | Step::Call(Call::Declare { .. } | Call::Open { .. } | Call::Settle { .. })
-        )
-    }
-
-    // Whether, accepted, it may write to the record.
-    pub fn may_write(&self) -> bool {
-        matches!(
-            self,
-            Step::Filling(_) | Step::Call(Call::Settle { .. } | Call::WriteHeader { .. })
-        )
+    // What it may change where it is accepted.
+    pub fn change(&self) -> Change {
+        match self {
+            Step::Call(Call::Declare { .. } | Call::Open { .. }) => Change::Names,
+            Step::Call(Call::WriteHeader { .. }) => Change::Header,
+            Step::Call(Call::Settle { .. }) | Step::Filling(_) => Change::Bookings,
+            _ => Change::Nothing,
+        }
     }
 }

@@ -17,7 +17,8 @@ impl<'a> Section<'a> {
     }
 }
 
-// A row is passed over, starts a section, or belongs to the section under way.
+// A row is passed over, starts a section, or belongs to the section under way. Rows above the first new ledger stand in a section
+// that names none.
 fn place_row<'a>(
     heap: Global,
     row: &'a str,
@@ -28,16 +29,19 @@ fn place_row<'a>(
     }
     if let Some(ledger) = row.strip_prefix("new ") {
         sections.push(Section::new(heap, ledger))?;
-    } else if let Some(section) = sections.last_mut() {
+        return Ok(());
+    }
+    if sections.is_empty() {
+        sections.push(Section::new(heap, ""))?;
+    }
+    if let Some(section) = sections.last_mut() {
         section.rows.push(row)?;
     }
     Ok(())
 }
 
-// Rows above the first new ledger stand in a section without one, where none of them can hold.
 pub fn sections_of<'a>(heap: Global, text: &'a str) -> anyhow::Result<Vec<Section<'a>>> {
     let mut sections = Vec::new(heap);
-    sections.push(Section::new(heap, ""))?;
     for row in text.lines() {
         place_row(heap, row, &mut sections)?;
     }

@@ -1,7 +1,7 @@
 // A ledger and its record, upon which the rows of a section are carried out one after another.
 use crate::answers::Shown;
 use crate::fields::{show_bytes, show_header, show_row};
-use crate::seen::Seen;
+use crate::seen::{Change, Seen};
 use crate::step::{Filling, Question, Step};
 use crate::table::Section;
 use crate::tally::Tally;
@@ -119,36 +119,31 @@ impl<P: Policy + Drop> Trial<P> {
         Ok(out)
     }
 
-    fn outcome(&self, outcome: Outcome) -> anyhow::Result<Answer> {
+    fn carry_out(&mut self, step: Step<'_>) -> anyhow::Result<Answer> {
+        let outcome = match step {
+            Step::Call(call) => self.perform(call),
+            Step::Filling(filling) => self.fill(filling),
+            Step::Question(question) => {
+                return Ok(Answer {
+                    text: self.ask(question)?,
+                    is_refused: false,
+                });
+            }
+        };
         Ok(Answer {
             text: format!(in self.heap; "{}", Shown(outcome))?,
             is_refused: matches!(outcome, Outcome::Refused(_)),
         })
     }
 
-    fn carry_out(&mut self, step: Step<'_>) -> anyhow::Result<Answer> {
-        match step {
-            Step::Call(call) => {
-                let outcome = self.perform(call);
-                self.outcome(outcome)
-            }
-            Step::Filling(filling) => {
-                let outcome = self.fill(filling);
-                self.outcome(outcome)
-            }
-            Step::Question(question) => Ok(Answer {
-                text: self.ask(question)?,
-                is_refused: false,
-            }),
-        }
-    }
-
-    // Whether a step changed no more than it may. Refused, it may change nothing.
+    // Whether a step changed no more than it may: refused, nothing.
     fn keeps(&self, step: Step<'_>, is_refused: bool, before: &Seen) -> anyhow::Result<bool> {
-        let after = self.look()?;
-        let answers = !is_refused && step.may_change_answers() || after.same_answers(before);
-        let bytes = !is_refused && step.may_write() || after.same_bytes(before);
-        Ok(answers && bytes)
+        let change = if is_refused {
+            Change::Nothing
+        } else {
+            step.change()
+        };
+        Ok(self.look()?.keeps_but(change, before))
     }
 
     // Whether a step is answered as expected and changes no more than it may.
@@ -199,9 +194,10 @@ fn hold_upon<P: Policy + Drop>(
     Trial::new(heap, policy, length)?.hold_rows(rows, tally)
 }
 
-// Without a ledger no row holds.
-fn hold_none(rows: &[&str], tally: &mut Tally) -> anyhow::Result<()> {
-    for row in rows {
+// Without a ledger no row holds, nor does the one that was to start it.
+fn hold_none(section: &Section<'_>, tally: &mut Tally) -> anyhow::Result<()> {
+    tally.count(section.ledger, false)?;
+    for row in &section.rows {
         tally.count(row, false)?;
     }
     Ok(())
@@ -215,15 +211,15 @@ fn ledger_of<'a>(section: &Section<'a>) -> Option<(&'a str, usize)> {
 pub fn hold_section(heap: Global, section: &Section<'_>, tally: &mut Tally) -> anyhow::Result<()> {
     let rows = section.rows.as_slice();
     let Some((policy, length)) = ledger_of(section) else {
-        return hold_none(rows, tally);
+        return hold_none(section, tally);
     };
     match policy {
         "strict" => hold_upon(heap, Strict, length, rows, tally),
         "fifo" => hold_upon(heap, Fifo, length, rows, tally),
         "lifo" => hold_upon(heap, Lifo, length, rows, tally),
-        "whole-lot-strict" => { hold_upon(heap, WholeLot { below: Strict }, length, rows, tally) }
+        "whole-lot-strict" => hold_upon(heap, WholeLot { below: Strict }, length, rows, tally),
         "whole-lot-fifo" => hold_upon(heap, WholeLot { below: Fifo }, length, rows, tally),
         "whole-lot-lifo" => hold_upon(heap, WholeLot { below: Lifo }, length, rows, tally),
-        _ => hold_none(rows, tally),
+        _ => hold_none(section, tally),
     }
 }
