@@ -18,13 +18,14 @@ struct Balances {
     plain: Result<i64, Fault>,
 }
 
-// What may change: nothing, what is declared and opened, the record's header, or what is booked and written.
+// What may change: nothing, what is declared and opened, the record's header, what is booked and written, or the whole record.
 #[derive(Clone, Copy)]
 pub enum Change {
     Nothing,
     Names,
     Header,
     Bookings,
+    Record,
 }
 
 #[derive(Drop)]
@@ -132,6 +133,7 @@ impl Seen {
             Change::Names => self.same_bookings(before) && self.same_bytes(before),
             Change::Header => self.same_answers(before) && self.same_beside_rows(before),
             Change::Bookings => self.same_beside_rows(before),
+            Change::Record => self.same_answers(before),
         }
     }
 }

@@ -1,4 +1,4 @@
-// What a row asks for: a call, a question, or many transactions at once.
+// What a row asks for: a call, a question, many transactions at once, or another record.
 use crate::calls::call_of;
 use crate::seen::Change;
 use crate::words::Request;
@@ -30,6 +30,8 @@ pub enum Step<'a> {
     Call(Call<'a>),
     Question(Question),
     Filling(Filling<'a>),
+    // A record of so many bytes, lent from then on.
+    Record { length: usize },
 }
 
 fn question_of(request: &Request<'_>) -> Option<Question> {
@@ -71,6 +73,15 @@ fn filling_of<'a>(request: &'a Request<'_>) -> Option<Filling<'a>> {
     })
 }
 
+fn record_of<'a>(request: &Request<'_>) -> Option<Step<'a>> {
+    let ("record", [length]) = (request.verb, request.words.as_slice()) else {
+        return None;
+    };
+    Some(Step::Record {
+        length: length.text.parse::<usize>().ok()?,
+    })
+}
+
 impl<'a> Step<'a> {
     // None where the row cannot be read.
     pub fn of(request: &'a Request<'_>) -> Option<Step<'a>> {
@@ -80,9 +91,12 @@ impl<'a> Step<'a> {
         if request.inner().is_some() {
             return None;
         }
-        match question_of(request) {
-            Some(question) => Some(Step::Question(question)),
-            None => filling_of(request).map(Step::Filling),
+        if let Some(question) = question_of(request) {
+            return Some(Step::Question(question));
+        }
+        match filling_of(request) {
+            Some(filling) => Some(Step::Filling(filling)),
+            None => record_of(request),
         }
     }
 
@@ -92,6 +106,7 @@ impl<'a> Step<'a> {
             Step::Call(Call::Declare { .. } | Call::Open { .. }) => Change::Names,
             Step::Call(Call::WriteHeader { .. }) => Change::Header,
             Step::Call(Call::Settle { .. }) | Step::Filling(_) => Change::Bookings,
+            Step::Record { .. } => Change::Record,
             _ => Change::Nothing,
         }
     }

@@ -123,6 +123,10 @@ impl<P: Policy + Drop> Trial<P> {
         let outcome = match step {
             Step::Call(call) => self.perform(call),
             Step::Filling(filling) => self.fill(filling),
+            Step::Record { length } => {
+                self.book = vec![in self.heap; UNWRITTEN; length]?;
+                Outcome::Done
+            }
             Step::Question(question) => {
                 return Ok(Answer {
                     text: self.ask(question)?,
