@@ -7,6 +7,9 @@ ghost use Rattle.books.specs.Recording.{record_after_calls};
 ghost use Rattle.books.specs.States.{empty_ledger};
 ghost use Rattle.ledger.specs.Kept.{in_state};
 ghost use Rattle.journals.specs.Places.{placed};
+ghost use Rattle.journals.specs.Answers.{answers_of};
+ghost use Rattle.law.specs.Laws.{Lawful};
+ghost use Rattle.law.specs.Records.{RecordHolds};
 ghost use Rattle.reader.specs.Readings.{unread, books, read_from, journal_read};
 
 use crate::places::place;
@@ -52,4 +55,33 @@ fn read_lines<P: Policy>(
     }
     let_none_go(slip);
     count
+}
+
+// The ledger that a journal leaves, and how many outcomes its steps had.
+#[derive(Drop)]
+pub struct BookedJournal<P> {
+    pub ledger: Ledger<P>,
+    pub outcomes: usize,
+}
+
+// Reads a journal and books it on a new ledger and in a record. The outcomes go to the places that are lent, as many as there are.
+pub fn book_journal<P: Policy>(
+    policy: P,
+    journal: &[u8],
+    places: &mut [Outcome],
+    book: &mut [u8],
+) -> BookedJournal<P>
+    ensures outcomes { places.new ≡ placed (journal_read (P.Policy.order policy) (length book.old) journal.now).outcomes places.old }
+    ensures count { result.outcomes ≡ length (journal_read (P.Policy.order policy) (length book.old) journal.now).outcomes }
+    ensures ledger { result.ledger ≡ record { policy = policy; state = books (P.Policy.order policy) (journal_read (P.Policy.order policy) (length book.old) journal.now) } }
+    ensures book { book.new ≡ record_after_calls (P.Policy.order policy) empty_ledger (journal_read (P.Policy.order policy) (length book.old) journal.now).calls book.old }
+    ensures lawful { Lawful (P.Policy.order policy) (journal_read (P.Policy.order policy) (length book.old) journal.now).calls (answers_of (P.Policy.order policy) (journal_read (P.Policy.order policy) (length book.old) journal.now)) result.ledger.state }
+    ensures recorded { RecordHolds (P.Policy.order policy) (journal_read (P.Policy.order policy) (length book.old) journal.now).calls (answers_of (P.Policy.order policy) (journal_read (P.Policy.order policy) (length book.old) journal.now)) book.old book.new }
+{
+    let mut ledger = Ledger::new(policy);
+    let outcomes = match check_journal(journal) {
+        Ok(()) => read_lines(&mut ledger, journal, places, book),
+        Err(fault) => place(places, 0, Some(Outcome::Refused(fault))),
+    };
+    BookedJournal { ledger, outcomes }
 }
