@@ -1,3 +1,5 @@
 pub mod Placing
 pub mod Stepping
 pub mod UnderWay
+pub mod Lent
+pub mod Allowing

@@ -7,6 +7,7 @@ ghost use Rattle.books.specs.Recording.{record_after_calls};
 ghost use Rattle.books.specs.States.{empty_ledger};
 ghost use Rattle.ledger.specs.Kept.{in_state};
 ghost use Rattle.journals.specs.Places.{placed};
+ghost use Rattle.journals.specs.Accepted.{AcceptedExactly};
 ghost use Rattle.journals.specs.Answers.{answers_of};
 ghost use Rattle.law.specs.Laws.{Lawful};
 ghost use Rattle.law.specs.Records.{RecordHolds};
@@ -64,6 +65,26 @@ pub struct BookedJournal<P> {
     pub outcomes: usize,
 }
 
+// The ledger, the record and the outcomes, without the law over them.
+fn book_lines<P: Policy>(
+    policy: P,
+    journal: &[u8],
+    places: &mut [Outcome],
+    book: &mut [u8],
+) -> BookedJournal<P>
+    ensures outcomes { places.new ≡ placed (journal_read (P.Policy.order policy) (length book.old) journal.now).outcomes places.old }
+    ensures count { result.outcomes ≡ length (journal_read (P.Policy.order policy) (length book.old) journal.now).outcomes }
+    ensures ledger { result.ledger ≡ record { policy = policy; state = books (P.Policy.order policy) (journal_read (P.Policy.order policy) (length book.old) journal.now) } }
+    ensures book { book.new ≡ record_after_calls (P.Policy.order policy) empty_ledger (journal_read (P.Policy.order policy) (length book.old) journal.now).calls book.old }
+{
+    let mut ledger = Ledger::new(policy);
+    let outcomes = match check_journal(journal) {
+        Ok(()) => read_lines(&mut ledger, journal, places, book),
+        Err(fault) => place(places, 0, Some(Outcome::Refused(fault))),
+    };
+    BookedJournal { ledger, outcomes }
+}
+
 // Reads a journal and books it on a new ledger and in a record. The outcomes go to the places that are lent, as many as there are.
 pub fn book_journal<P: Policy>(
     policy: P,
@@ -75,13 +96,9 @@ pub fn book_journal<P: Policy>(
     ensures count { result.outcomes ≡ length (journal_read (P.Policy.order policy) (length book.old) journal.now).outcomes }
     ensures ledger { result.ledger ≡ record { policy = policy; state = books (P.Policy.order policy) (journal_read (P.Policy.order policy) (length book.old) journal.now) } }
     ensures book { book.new ≡ record_after_calls (P.Policy.order policy) empty_ledger (journal_read (P.Policy.order policy) (length book.old) journal.now).calls book.old }
+    ensures accepted_exactly { AcceptedExactly (P.Policy.order policy) (length book.old) (lines_of journal.now) }
     ensures lawful { Lawful (P.Policy.order policy) (journal_read (P.Policy.order policy) (length book.old) journal.now).calls (answers_of (P.Policy.order policy) (journal_read (P.Policy.order policy) (length book.old) journal.now)) result.ledger.state }
     ensures recorded { RecordHolds (P.Policy.order policy) (journal_read (P.Policy.order policy) (length book.old) journal.now).calls (answers_of (P.Policy.order policy) (journal_read (P.Policy.order policy) (length book.old) journal.now)) book.old book.new }
 {
-    let mut ledger = Ledger::new(policy);
-    let outcomes = match check_journal(journal) {
-        Ok(()) => read_lines(&mut ledger, journal, places, book),
-        Err(fault) => place(places, 0, Some(Outcome::Refused(fault))),
-    };
-    BookedJournal { ledger, outcomes }
+    book_lines(policy, journal, places, book)
 }
