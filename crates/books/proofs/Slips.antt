@@ -9,14 +9,10 @@ use Rattle.books.specs.declared.outcome.Outcome.TheVariants.{Begun, Done}
 use Rattle.books.specs.States.{State}
 use Rattle.books.specs.Calls.{beginning, posting, settling, tearing, AmountGiven}
 use Rattle.books.specs.Conditions.{no_such_draft}
+use Rattle.books.specs.Slips.{HoldsSlip}
 use Rattle.books.specs.Refusals.{refusal}
 use Rattle.books.specs.Changes.{with_draft}
 use Rattle.books.specs.Steps.{answered, step}
-
--- a draft is under way, and this is its slip's number
-pub record HoldsSlip (s : State) (slip : ℕ) : Type 0 where
-  pub under_way : is_some s.draft ≡ true
-  pub number : slip ≡ s.transactions + 1
 
 has_draft : (s : State) (slip : ℕ) → HoldsSlip s slip → no_such_draft s slip ≡ false
 has_draft s slip held = rw held.under_way (grind (arith, nat_tests))

@@ -7,6 +7,7 @@ pub mod Conditions
 pub mod Refusals
 pub mod Changes
 pub mod Steps
+pub mod Slips
 pub mod Recording
 pub mod Questions
 pub mod Padding

@@ -56,8 +56,7 @@ impl Chart {
     pub fn commodity(&self, name: &[u8]) -> Option<u8>
         ensures { result ≡ commodity_number self.now name.now }
     {
-        self.commodities
-            .as_slice()
+        self.commodity_list()
             .iter()
             .position(|kept| kept.as_slice() == name)
             .map(commodity_at)
@@ -103,12 +102,13 @@ impl Chart {
         ensures counted { result ≡ length self.now.commodities }
         ensures few { result ≤ 16 }
     {
-        self.commodities.as_slice().len()
+        self.commodity_list().len()
     }
 
     // The commodities in the order in which they were declared.
     pub fn commodity_list(&self) -> &[Name]
-        ensures { result.now ≡ self.now.commodities }
+        ensures listed { result.now ≡ self.now.commodities }
+        ensures few { length result.now ≤ 16 }
     {
         self.commodities.as_slice()
     }

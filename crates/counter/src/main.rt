@@ -2,15 +2,14 @@
 // ledger then holds, and what stands in the record.
 #![tactic(auto)]
 
-
 mod rows;
 mod story;
 
 use books::outcome::Outcome;
-use pages::figures::{Day, Hundredths};
 use ledger::Ledger;
 use lots::policy::{Fifo, Lifo, Policy, WholeLot};
 use lots::rows::LotRow;
+use pages::figures::{Day, Hundredths};
 use pages::rows::{read, rows_of};
 use rows::Printed;
 use runs::run;

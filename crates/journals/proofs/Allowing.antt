@@ -1,11 +1,10 @@
 -- A line is accepted exactly where the grammar and the books allow it.
 use Rattle.std.proofs.Common.{◌≡◌, ℕ, ◌+◌, Bool, true, false, cond, ◌&&◌, ◌==◌, nat_le, List, [], ◌∷◌, ◌++◌, length, Some, None, Ok, Err, Option, Result, refl, sym, ap, ◌∙◌, subst, ⊎_elim}
-use Rattle.std.proofs.ByRecursion.{All-append}
-use Rattle.std.proofs.lemmas.Bool.{false≢true, true≢false}
+use Rattle.std.proofs.lemmas.Bool.{false≢true}
 use Rattle.std.specs.List.{AllByRecursion}
 use Rattle.refusal.specs.declared.Fault.{Fault}
 use Rattle.lots.specs.Orders.{Order}
-use Rattle.lines.specs.Grammar.{BlankLine, Written, ReadsExactly}
+use Rattle.lines.specs.Grammar.{Written, ReadsExactly}
 use Rattle.lines.specs.Lines.{line_kind, line_says, by_kind, unless_wrong, wrong_byte, posting_line, other_line}
 use Rattle.lines.specs.Postings.{posting_of}
 use Rattle.lines.specs.Faults.{fault_on}
@@ -34,9 +33,9 @@ use Rattle.law.proofs.Runs.{reply_accepted}
 use Rattle.reader.specs.declared.phase.Phase.{Phase}
 use Rattle.reader.specs.declared.phase.Phase.TheVariants.{Outside, InTransaction, Skipping}
 use Rattle.reader.specs.Asked.{call_asked, units_given}
-use Rattle.reader.specs.Turns.{slip_number, said_turn, directive_turn, posting_turn, line_turn}
+use Rattle.reader.specs.Turns.{slip_number, said_turn, directive_turn, posting_turn}
 use Rattle.reader.specs.Readings.{books, after_lines, unread}
-use Rattle.journals.specs.Accepted.{Exactly, outcome_accepted, BooksAllow, Allowed, LineExactly, DraftExactly, AcceptedExactly, read_before}
+use Rattle.journals.specs.Accepted.{Exactly, outcome_accepted, BooksAllow, Allowed, LineExactly, AcceptedExactly, read_before}
 
 -- a test that is met is not unmet
 met_among : (before : List Test) (t : Test) (behind : List Test) → AllByRecursion (λ u. u.met ≡ false) (before ++ t ∷ behind) → t.met ≡ false

@@ -1,5 +1,5 @@
 -- The calls that a journal comes to are lent no more than the record has.
-use Rattle.std.proofs.Common.{◌≡◌, ℕ, ◌+◌, ◌≤◌, true, false, List, [], ◌∷◌, ◌++◌, Some, None, Ok, Err, Option, Result, arith}
+use Rattle.std.proofs.Common.{ℕ, ◌+◌, List, [], ◌∷◌, Some, None, Ok, Err, Option, Result, arith}
 use Rattle.std.proofs.ByRecursion.{All-append}
 use Rattle.std.proofs.lemmas.Bool.{cond_both}
 use Rattle.std.specs.List.{AllByRecursion}
@@ -10,14 +10,14 @@ use Rattle.lines.specs.Said.{Said, booking_method, commodity, opening, closing, 
 use Rattle.lines.specs.declared.line.LineKind.{LineKind}
 use Rattle.lines.specs.declared.line.LineKind.TheVariants as kind
 use Rattle.books.specs.declared.outcome.Outcome.{Outcome}
-use Rattle.books.specs.Calls.{Call, settling, tearing}
+use Rattle.books.specs.Calls.{Call, tearing}
 use Rattle.books.specs.Lending.{LentWithin}
 use Rattle.books.specs.States.{State}
 use Rattle.law.specs.Histories.{accepted}
 use Rattle.reader.specs.declared.phase.Phase.{Phase}
 use Rattle.reader.specs.declared.phase.Phase.TheVariants.{Outside, InTransaction, Skipping}
-use Rattle.reader.specs.Turns.{Turn, slip_number, or_torn, said_turn, directive_turn, posting_turn, settling_turn, line_turn}
-use Rattle.reader.specs.Readings.{Reading, unread, books, took, ends_draft, draft_ended, line_taken, after_line, after_lines, read_from, unless_too_long, journal_read}
+use Rattle.reader.specs.Turns.{slip_number, or_torn, said_turn, directive_turn, posting_turn, settling_turn, line_turn}
+use Rattle.reader.specs.Readings.{Reading, unread, books, took, ends_draft, draft_ended, after_line, after_lines, read_from, unless_too_long, journal_read}
 
 module _ (o : Order) (lent : ℕ) where
   abbrev All : List Call → Type 0

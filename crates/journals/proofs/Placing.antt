@@ -1,5 +1,5 @@
 -- One outcome more in its place.
-use Rattle.std.proofs.Common.{◌≡◌, ℕ, ◌<◌, ◌≤◌, List, [], ◌∷◌, ◌++◌, length, set, refl, ap, arith}
+use Rattle.std.proofs.Common.{◌≡◌, List, [], ◌∷◌, ◌++◌, length, set, refl, ap, arith}
 use Rattle.journals.specs.Places.{placed}
 
 pub placed_all : {X : Type 0} (xs ys : List X) → length (placed xs ys) ≡ length ys

@@ -1,5 +1,5 @@
 -- One step of the reader: what is left gives the rest of the reading.
-use Rattle.std.proofs.Common.{◌≡◌, ℕ, ◌+◌, Bool, true, false, cond, not, List, [], ◌∷◌, ◌++◌, Some, None, refl, sym, ap, ◌∙◌}
+use Rattle.std.proofs.Common.{◌≡◌, ℕ, ◌+◌, Bool, true, false, cond, not, List, [], ◌∷◌, ◌++◌, Some, None, refl}
 use Rattle.lots.specs.Orders.{Order}
 use Rattle.lines.specs.Lines.{line_kind}
 use Rattle.books.specs.Calls.{Call}
@@ -32,12 +32,3 @@ one_step o lent number r [] more = by (ends_draft r.phase None) refl more
     by true e more = rw e refl
     by false e more = cc
 one_step o lent number r (l ∷ ls) more = by_line o lent number r l ls (ends_draft r.phase (Some (line_kind l)))
-
--- at the end nothing is left to do
-pub read_over : (o : Order) (lent number : ℕ) (r : Reading) (ls : List (List ℕ)) → is_done r.phase ls ≡ true → read_from o lent number r ls ≡ r
-read_over o lent number r [] over = by (ends_draft r.phase None) over
-  where
-    by : (ends : Bool) → not ends ≡ true → cond ends (took r (settling_turn o (books o r) lent)) r ≡ r
-    by true over = cc
-    by false over = refl
-read_over o lent number r (l ∷ ls) over = cc

@@ -1,36 +1,26 @@
 -- A journal that is being read: the ledger, the record and the outcomes are those of what was read so far.
-use Rattle.std.proofs.Common.{◌≡◌, ℕ, ◌+◌, ◌<◌, ◌≤◌, true, false, List, [], ◌∷◌, ◌++◌, length, Some, None, Option, refl, sym, ap, ◌∙◌, arith}
+use Rattle.std.proofs.Common.{◌≡◌, ℕ, ◌+◌, ◌<◌, ◌≤◌, false, List, ◌++◌, length, Some, None, Option, refl, sym, ap, ◌∙◌, arith}
 use Rattle.std.proofs.lemmas.List.{append-nil, length-append}
 use Rattle.lots.specs.Orders.{Order}
 use Rattle.lines.specs.Lines.{lines_of}
 use Rattle.books.specs.declared.outcome.Outcome.{Outcome}
-use Rattle.books.specs.Calls.{Call}
-use Rattle.books.specs.States.{State, empty_ledger}
+use Rattle.books.specs.States.{empty_ledger}
 use Rattle.books.specs.Steps.{state_after}
 use Rattle.books.specs.Recording.{record_after_calls}
 use Rattle.ledger.specs.Kept.{Kept, in_state}
 use Rattle.ledger.specs.declared.slip.Slip.{Slip}
 use Rattle.reader.specs.declared.phase.Phase.{Phase}
-use Rattle.reader.specs.declared.phase.Phase.TheVariants.{Outside, InTransaction, Skipping}
+use Rattle.reader.specs.declared.phase.Phase.TheVariants.{Outside}
 use Rattle.reader.specs.Does.{Held, ledger_after, record_after_turn}
 use Rattle.reader.specs.Turns.{Turn}
 use Rattle.reader.specs.Readings.{Reading, unread, books, listed, took, is_done, step_turn, lines_left, number_left, steps_left, read_from}
 use Rattle.journals.specs.Places.{placed, place_one}
-use Rattle.journals.proofs.Placing.{placed_more, placed_all}
-use Rattle.journals.proofs.Stepping.{state_append, record_append, one_step, read_over}
+use Rattle.journals.proofs.Placing.{placed_more}
+use Rattle.journals.proofs.Stepping.{state_append, record_append, one_step}
 
 listed_few : (x : Option Outcome) → length (listed x) ≤ 1
 listed_few None = omega arith
 listed_few (Some x) = omega arith
-
--- where no draft can be ended, no slip is held
-outside : (phase : Phase) (ls : List (List ℕ)) (slip : Option Slip) (s : State) → is_done phase ls ≡ true → Held phase slip s → slip ≡ None
-outside Outside ls None s over held = refl
-outside Outside ls (Some slip) s over held = absurd held
-outside Skipping ls None s over held = refl
-outside Skipping ls (Some slip) s over held = absurd held
-outside InTransaction [] slip s over held = cc
-outside InTransaction (l ∷ ls) slip s over held = cc
 
 module _ {P : Type 0} (order : P → Order) (first : Kept P) (journal before : List ℕ) (old : List Outcome) where
   abbrev o : Order
@@ -132,23 +122,3 @@ module _ {P : Type 0} (order : P → Order) (first : Kept P) (journal before : L
     few = omega arith;
     bounded = omega arith;
   }
-
-  -- nothing is left to read
-  module _ {l : Kept P} {phase : Phase} {rest : List ℕ} {number : ℕ} {book : List ℕ} {answers : List Outcome} {count : ℕ} {slip : Option Slip} (u : UnderWay l phase rest number book answers count slip) (over : is_done phase (lines_of rest) ≡ true) where
-    all_read : u.reading ≡ read_from o lent 1 unread (lines_of journal)
-    all_read = sym (read_over o lent number u.reading (lines_of rest) (sym (ap (λ (p : Phase). is_done p (lines_of rest)) u.phase_is) ∙ over)) ∙ u.left
-
-    pub count_then : count ≡ length (read_from o lent 1 unread (lines_of journal)).outcomes
-    count_then = u.counted ∙ ap (λ (r : Reading). length r.outcomes) all_read
-
-    pub outcomes_then : answers ≡ placed (read_from o lent 1 unread (lines_of journal)).outcomes old
-    outcomes_then = u.answered ∙ ap (λ (r : Reading). placed r.outcomes old) all_read
-
-    pub ledger_then : l ≡ in_state first (books o (read_from o lent 1 unread (lines_of journal)))
-    ledger_then = u.ledger ∙ ap (λ (r : Reading). in_state first (books o r)) all_read
-
-    pub book_then : book ≡ record_after_calls o empty_ledger (read_from o lent 1 unread (lines_of journal)).calls before
-    book_then = u.recorded ∙ ap (λ (r : Reading). record_after_calls o empty_ledger r.calls before) all_read
-
-    pub none_held : slip ≡ None
-    none_held = outside phase (lines_of rest) slip l.state over u.held

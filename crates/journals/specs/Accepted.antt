@@ -16,7 +16,7 @@ use Rattle.reader.specs.declared.phase.Phase.{Phase}
 use Rattle.reader.specs.declared.phase.Phase.TheVariants.{Outside, InTransaction, Skipping}
 use Rattle.reader.specs.Asked.{call_asked}
 use Rattle.reader.specs.Turns.{slip_number, line_turn, settling_turn}
-use Rattle.reader.specs.Readings.{Reading, unread, books, ends_draft, draft_ended, after_lines}
+use Rattle.reader.specs.Readings.{Reading, unread, books, draft_ended, after_lines}
 
 -- something is answered yes where, and only where, a fact holds
 pub record Exactly (answer : Bool) (Fact : Type 0) : Type 0 where

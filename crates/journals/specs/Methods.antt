@@ -1,5 +1,5 @@
 -- The booking method of a journal.
-use Rattle.std.specs.Prelude.{ℕ, List, [], ◌∷◌, Some, None, Ok, Err, Option, Result}
+use Rattle.std.specs.Prelude.{ℕ, List, [], ◌∷◌, Some, Ok, Option, Result}
 use Rattle.refusal.specs.declared.Fault.{Fault}
 use Rattle.lines.specs.Lines.{line_says}
 use Rattle.lines.specs.Said.{Said, booking_method}

@@ -10,10 +10,9 @@ use lines::journal::MOST_BYTES;
 use lots::policy::{Fifo, Lifo, Policy, Strict, WholeLot};
 use options::Options;
 use pages::booked::write_booked;
-use std::env;
-use std::fs;
 use std::io::Read;
 use std::process::ExitCode;
+use std::{env, fs};
 
 // The bytes of the record that a journal is booked in.
 const BOOK_LEN: usize = 49_152;

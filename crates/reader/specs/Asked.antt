@@ -1,7 +1,6 @@
 -- The call on a ledger that a line asks for. Its source is the line's number, and its arguments are what the line says.
-use Rattle.std.specs.Prelude.{ℕ, List, Some, None, Option}
+use Rattle.std.specs.Prelude.{ℕ, Some, None, Option}
 use Rattle.std.specs.Option.{option_map}
-use Rattle.fields.specs.Spots.{Spot}
 use Rattle.lines.specs.Said.{Said, booking_method, commodity, opening, closing, balance, transaction, posting, CostSaid, BracesSaid, empty, cost, date, cost_and_date, UnitsSaid}
 use Rattle.books.specs.Calls.{Call, CostGiven, BracesGiven, AmountGiven}
 use Rattle.books.specs.Calls as call

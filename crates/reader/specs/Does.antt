@@ -1,10 +1,10 @@
 -- What a step has to do: the calls of a turn, one after another, upon the ledger and the record.
-use Rattle.std.specs.Prelude.{◌≡◌, ℕ, List, Some, None, Option}
+use Rattle.std.specs.Prelude.{ℕ, List, Some, None, Option}
 use Rattle.lots.specs.Orders.{Order}
 use Rattle.books.specs.Recording.{record_after_calls}
 use Rattle.books.specs.States.{State}
 use Rattle.books.specs.Steps.{state_after}
-use Rattle.books.proofs.Slips.{HoldsSlip}
+use Rattle.books.specs.Slips.{HoldsSlip}
 use Rattle.ledger.specs.Kept.{Kept, in_state}
 use Rattle.ledger.specs.declared.slip.Slip.{Slip}
 use Rattle.reader.specs.declared.phase.Phase.{Phase}

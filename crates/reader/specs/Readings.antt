@@ -95,4 +95,3 @@ unless_too_long (Err f) r = record { phase = Outside; calls = []; outcomes = Ref
 -- what is read of a journal, each settling lent so many bytes of the record
 abbrev pub journal_read : Order → ℕ → List ℕ → Reading
 journal_read o lent journal = unless_too_long (journal_fault journal) (read_from o lent 1 unread (lines_of journal))
-

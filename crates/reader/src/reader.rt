@@ -82,12 +82,7 @@ fn take<P: Policy>(
 }
 
 // The end of the journal.
-fn end<P: Policy>(
-    phase: Phase,
-    slip: Option<Slip>,
-    ledger: &mut Ledger<P>,
-    book: &mut [u8],
-) -> Step
+fn end<P: Policy>(phase: Phase, slip: Option<Slip>, ledger: &mut Ledger<P>, book: &mut [u8]) -> Step
     requires { Held phase slip ledger.old.state }
     ensures phase { result.phase ≡ (step_turn (P.Policy.order ledger.old.policy) ledger.old.state (length book.old) 0 phase []).next }
     ensures outcome { result.outcome ≡ (step_turn (P.Policy.order ledger.old.policy) ledger.old.state (length book.old) 0 phase []).outcome }

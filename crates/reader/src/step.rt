@@ -3,7 +3,7 @@ ghost use Rattle.std.specs.Prelude.{◌≡◌, ◌∷◌, [], Ok, Some, None, co
 ghost use Rattle.std.specs.Option.{option_map};
 ghost use Rattle.books.specs.Calls as call;
 ghost use Rattle.books.specs.Steps.{state_after};
-ghost use Rattle.books.proofs.Slips.{HoldsSlip};
+ghost use Rattle.books.specs.Slips.{HoldsSlip};
 ghost use Rattle.books.specs.declared.outcome.Outcome.TheVariants.{Refused};
 ghost use Rattle.reader.specs.declared.phase.Phase.TheVariants.{Outside, InTransaction, Skipping};
 ghost use Rattle.law.specs.Histories.{accepted};
@@ -85,12 +85,7 @@ pub(crate) fn settle<P: Policy>(ledger: &mut Ledger<P>, slip: Slip, book: &mut [
 }
 
 // A posting to the draft of a slip; refused, the draft is torn.
-fn post<P: Policy>(
-    ledger: &mut Ledger<P>,
-    slip: Slip,
-    number: u32,
-    posting: Posting<'_>,
-) -> Step
+fn post<P: Policy>(ledger: &mut Ledger<P>, slip: Slip, number: u32, posting: Posting<'_>) -> Step
     requires { HoldsSlip ledger.old.state slip.number }
     ensures phase { result.phase ≡ ((posted (P.Policy.order ledger.old.policy) ledger.old.state (call.posting slip.number number posting.entry.account.text.now (option_map units_given (posting_said posting.entry).units)))).next }
     ensures outcome { result.outcome ≡ ((posted (P.Policy.order ledger.old.policy) ledger.old.state (call.posting slip.number number posting.entry.account.text.now (option_map units_given (posting_said posting.entry).units)))).outcome }
@@ -112,7 +107,12 @@ fn post<P: Policy>(
 }
 
 // A posting line, which says nothing but a posting, of the transaction under way.
-pub(crate) fn post_line<P: Policy>(ledger: &mut Ledger<P>, slip: Slip, number: u32, line: &[u8]) -> Step
+pub(crate) fn post_line<P: Policy>(
+    ledger: &mut Ledger<P>,
+    slip: Slip,
+    number: u32,
+    line: &[u8],
+) -> Step
     requires { HoldsSlip ledger.old.state slip.number }
     ensures phase { result.phase ≡ (posting_turn (P.Policy.order ledger.old.policy) ledger.old.state number (line_says number line.now)).next }
     ensures outcome { result.outcome ≡ (posting_turn (P.Policy.order ledger.old.policy) ledger.old.state number (line_says number line.now)).outcome }
@@ -240,7 +240,12 @@ fn carry_out<P: Policy>(
 }
 
 // A directive line, outside of a transaction or behind a refused line.
-pub(crate) fn directive_line<P: Policy>(ledger: &mut Ledger<P>, number: u32, line: &[u8], book: &mut [u8]) -> Step
+pub(crate) fn directive_line<P: Policy>(
+    ledger: &mut Ledger<P>,
+    number: u32,
+    line: &[u8],
+    book: &mut [u8],
+) -> Step
     ensures phase { result.phase ≡ (directive_turn (P.Policy.order ledger.old.policy) ledger.old.state number (line_says number line.now)).next }
     ensures outcome { result.outcome ≡ (directive_turn (P.Policy.order ledger.old.policy) ledger.old.state number (line_says number line.now)).outcome }
     ensures slip { Held result.phase result.slip ledger.new.state }

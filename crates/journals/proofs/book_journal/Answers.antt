@@ -1,6 +1,4 @@
-use Rattle.std.proofs.Common.{length, ap}
-use Rattle.books.specs.States.{State}
-use Rattle.ledger.specs.Kept.{Kept}
+use Rattle.std.proofs.Common.{length}
 use Rattle.lines.specs.Lines.{lines_of}
 use Rattle.reader.specs.Readings.{journal_read}
 use Rattle.law.proofs.Runs.{books_stand}

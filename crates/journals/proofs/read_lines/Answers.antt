@@ -1,7 +1,7 @@
-use Rattle.std.proofs.Common.{◌≡◌, true, false, rules, arith}
+use Rattle.std.proofs.Common.{◌≡◌, false, rules}
 use Rattle.lines.specs.Lines.{lines_of}
 use Rattle.reader.specs.Readings.{is_done}
-use Rattle.journals.proofs.UnderWay.{started, stepped, count_then, outcomes_then, ledger_then, book_then, none_held}
+use Rattle.journals.proofs.UnderWay.{started, stepped}
 use Rattle.journals.proofs.read_lines.Goals as goal
 
 pub loop-reader-init : goal.loop-reader-init
