@@ -21,12 +21,7 @@ fn print_booked<P: Policy + Drop>(
 ) -> anyhow::Result<String> {
     let mut places = vec![in heap; Outcome::Done; MOST_OUTCOMES]?;
     let mut book = vec![in heap; 0; BOOK_LEN]?;
-    let booked = book_journal(
-        policy,
-        journal,
-        places.as_mut_slice(),
-        book.as_mut_slice(),
-    );
+    let booked = book_journal(policy, journal, places.as_mut_slice(), book.as_mut_slice());
     let outcomes = places.get(..booked.outcomes).unwrap_or(&[]);
     let mut out = String::new(heap);
     write_booked(
