@@ -106,6 +106,13 @@ impl Chart {
         self.commodities.as_slice().len()
     }
 
+    // The commodities in the order in which they were declared.
+    pub fn commodity_list(&self) -> &[Name]
+        ensures { result.now ≡ self.now.commodities }
+    {
+        self.commodities.as_slice()
+    }
+
     // The accounts in the order in which they were opened.
     pub fn account_list(&self) -> &[Account]
         ensures listed { result.now ≡ self.now.accounts }

@@ -2,16 +2,17 @@
 // ledger then holds, and what stands in the record.
 #![tactic(auto)]
 
-mod figures;
+
 mod rows;
 mod story;
 
 use books::outcome::Outcome;
-use figures::{Day, Hundredths};
+use pages::figures::{Day, Hundredths};
 use ledger::Ledger;
 use lots::policy::{Fifo, Lifo, Policy, WholeLot};
 use lots::rows::LotRow;
-use rows::{read, rows_of};
+use pages::rows::{read, rows_of};
+use rows::Printed;
 use runs::run;
 use std::{fmt, io};
 use story::{BOOK_LEN, CALL_COUNT, calls};
@@ -89,7 +90,7 @@ fn list_lots<P: Policy>(rt: &HostRuntime, ledger: &Ledger<P>) -> io::Result<()> 
 fn list_rows(rt: &HostRuntime, book: &[u8; BOOK_LEN]) -> io::Result<()> {
     println!(rt; "rows")?;
     for row in rows_of(book) {
-        println!(rt; "{}", read(row))?;
+        println!(rt; "{}", Printed(read(row)))?;
     }
     Ok(())
 }

@@ -5,6 +5,7 @@ use std::fmt::Write;
 
 #[derive(Drop)]
 pub struct Case<'a> {
+    heap: Global,
     pub name: &'a str,
     pub with_lots: bool,
     pub journal: Vec<u8>,
@@ -57,16 +58,29 @@ impl<'a> Row<'a> {
     }
 }
 
-// What stands before a number in braces, the number, and what stands behind.
-fn split_counter(text: &str) -> Option<(&str, u32, &str)> {
-    let (front, rest) = text.split_once('{')?;
-    let (number, behind) = rest.split_once('}')?;
-    Some((front, number.parse::<u32>().ok()?, behind))
+// What a text of a row is at one of the row's turns: each number in angle brackets, then one more, and so on.
+fn write_turn(out: &mut String, text: &str, turn: u32) -> anyhow::Result<()> {
+    let mut parts = text.split('<');
+    write!(out, "{}", parts.next().unwrap_or(""))?;
+    for part in parts {
+        match counter_of(part) {
+            Some((first, behind)) => write!(out, "{}{behind}", first.saturating_add(turn))?,
+            None => write!(out, "<{part}")?,
+        }
+    }
+    Ok(())
+}
+
+// The number up to the closing bracket, and what stands behind.
+fn counter_of(part: &str) -> Option<(u32, &str)> {
+    let (number, behind) = part.split_once('>')?;
+    Some((number.parse::<u32>().ok()?, behind))
 }
 
 impl<'a> Case<'a> {
     fn new(heap: Global, name: &'a str, with_lots: bool) -> Case<'a> {
         Case {
+            heap,
             name,
             with_lots,
             journal: Vec::new(heap),
@@ -83,31 +97,24 @@ impl<'a> Case<'a> {
         Some(Case::new(heap, row.strip_prefix("case ")?, false))
     }
 
-    fn add_bytes(&mut self, text: &str) -> anyhow::Result<()> {
-        percent_decode(text.as_bytes()).append_to(&mut self.journal)?;
-        Ok(())
-    }
-
-    // A number in braces is one more at each turn.
-    fn expect(&mut self, text: &str, turn: u32) -> anyhow::Result<()> {
-        match split_counter(text) {
-            Some((front, first, behind)) => {
-                let number = first.saturating_add(turn);
-                writeln!(self.expected, "{front}{number}{behind}")?;
-            }
-            None => writeln!(self.expected, "{text}")?,
-        }
+    fn add_bytes(&mut self, text: &str, turn: u32) -> anyhow::Result<()> {
+        let mut turned = String::new(self.heap);
+        write_turn(&mut turned, text, turn)?;
+        percent_decode(turned.as_bytes()).append_to(&mut self.journal)?;
         Ok(())
     }
 
     fn add(&mut self, content: Content<'_>, turn: u32) -> anyhow::Result<()> {
         match content {
             Content::Line(text) => {
-                self.add_bytes(text)?;
+                self.add_bytes(text, turn)?;
                 self.journal.push(b'\n')?;
             }
-            Content::Bytes(text) => self.add_bytes(text)?,
-            Content::Output(text) => self.expect(text, turn)?,
+            Content::Bytes(text) => self.add_bytes(text, turn)?,
+            Content::Output(text) => {
+                write_turn(&mut self.expected, text, turn)?;
+                writeln!(self.expected)?;
+            }
         }
         Ok(())
     }

@@ -9,6 +9,7 @@ ghost use Rattle.ledger.specs.Kept.{in_state};
 ghost use Rattle.journals.specs.Places.{placed};
 ghost use Rattle.journals.specs.Accepted.{AcceptedExactly};
 ghost use Rattle.journals.specs.Answers.{answers_of};
+ghost use Rattle.journals.specs.Methods.{method_of};
 ghost use Rattle.law.specs.Laws.{Lawful};
 ghost use Rattle.law.specs.Records.{RecordHolds};
 ghost use Rattle.reader.specs.Readings.{unread, books, read_from, journal_read};
@@ -16,7 +17,9 @@ ghost use Rattle.reader.specs.Readings.{unread, books, read_from, journal_read};
 use crate::places::place;
 use books::outcome::Outcome;
 use ledger::Ledger;
-use lines::journal::check_journal;
+use lines::directive::{Directive, Method};
+use lines::journal::{check_journal, split_line};
+use lines::line::read_line;
 use lots::policy::Policy;
 use reader::phase::Phase;
 use reader::reader::{Reader, let_none_go};
@@ -101,4 +104,17 @@ pub fn book_journal<P: Policy>(
     ensures recorded { RecordHolds (P.Policy.order policy) (journal_read (P.Policy.order policy) (length book.old) journal.now).calls (answers_of (P.Policy.order policy) (journal_read (P.Policy.order policy) (length book.old) journal.now)) book.old book.new }
 {
     book_lines(policy, journal, places, book)
+}
+
+// The booking method that the option line names, if the journal starts with one; else STRICT.
+pub fn booking_method(journal: &[u8]) -> Method
+    ensures { result ≡ method_of (lines_of journal.now) }
+{
+    let Some(cut) = split_line(journal) else {
+        return Method::Strict;
+    };
+    match read_line(cut.line, 1) {
+        Ok(Some(Directive::BookingMethod(method))) => method,
+        _ => Method::Strict,
+    }
 }

@@ -6,6 +6,8 @@ ghost use Rattle.books.specs.Questions.{answer_unless, question_tests, holding_o
 
 use crate::Ledger;
 use crate::fault::reported;
+use books::account::Account;
+use books::name::Name;
 use books::outcome::Counts;
 use drafting::checks::refuse_unless;
 use lots::policy::Policy;
@@ -26,6 +28,20 @@ impl<P: Policy> Ledger<P> {
     {
         let there = refuse_unless(self.has(account, commodity), Refusal::NothingThere);
         reported(0, there)
+    }
+
+    // The commodities as declared: number n is at place n - 1.
+    pub fn commodities(&self) -> &[Name]
+        ensures { result.now ≡ self.now.state.names.commodities }
+    {
+        self.chart.commodity_list()
+    }
+
+    // The accounts as opened, closed ones among them: number n is at place n - 1.
+    pub fn accounts(&self) -> &[Account]
+        ensures { result.now ≡ self.now.state.names.accounts }
+    {
+        self.chart.account_list()
     }
 
     // The plain balance and the units of the open lots.

@@ -1,0 +1,6 @@
+// How programs print what a ledger and its record hold.
+#![tactic(auto)]
+
+pub mod booked;
+pub mod figures;
+pub mod rows;
