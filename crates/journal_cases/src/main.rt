@@ -1,0 +1,25 @@
+// Holds the booking of whole journals, and what is printed of it, to a table of cases on standard input; the head of the table says
+// how its rows are written. Of a case that comes out otherwise each line that differs is printed.
+#![tactic(auto)]
+
+mod printed;
+mod table;
+mod tally;
+
+use printed::print_journal;
+use std::io::Read;
+use table::cases_of;
+use tally::Tally;
+
+fn main(rt: HostRuntime) -> anyhow::Result<()> {
+    let heap = rt.alloc();
+    let mut text = String::new(heap);
+    rt.stdin().read_to_string(&mut text)?;
+    let mut tally = Tally::new(heap);
+    for case in &cases_of(heap, text.as_str())? {
+        let found = print_journal(heap, case.journal.as_slice(), case.with_lots)?;
+        tally.count(case, found.as_str())?;
+    }
+    rt.print(tally.report()?)?;
+    Ok(())
+}
