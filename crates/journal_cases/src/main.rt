@@ -2,11 +2,10 @@
 // how its rows are written. Of a case that comes out otherwise each line that differs is printed.
 #![tactic(auto)]
 
-mod printed;
 mod table;
 mod tally;
 
-use printed::print_journal;
+use pages::journal::{BOOK_LEN, print_journal};
 use std::io::Read;
 use table::cases_of;
 use tally::Tally;
@@ -17,7 +16,13 @@ fn main(rt: HostRuntime) -> anyhow::Result<()> {
     rt.stdin().read_to_string(&mut text)?;
     let mut tally = Tally::new(heap);
     for case in &cases_of(heap, text.as_str())? {
-        let found = print_journal(heap, case.journal.as_slice(), case.with_lots)?;
+        let mut book = vec![in heap; 0; BOOK_LEN]?;
+        let found = print_journal(
+            heap,
+            case.journal.as_slice(),
+            book.as_mut_slice(),
+            case.with_lots,
+        )?;
         tally.count(case, found.as_str())?;
     }
     rt.print(tally.report()?)?;

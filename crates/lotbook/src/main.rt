@@ -3,55 +3,22 @@
 
 mod options;
 
-use books::outcome::Outcome;
-use journals::{book_journal, booking_method};
-use lines::directive::Method;
 use lines::journal::MOST_BYTES;
-use lots::policy::{Fifo, Lifo, Policy, Strict, WholeLot};
 use options::Options;
-use pages::booked::write_booked;
+use pages::journal::{BOOK_LEN, print_journal};
 use std::io::Read;
 use std::process::ExitCode;
 use std::{env, fs};
 
-// The bytes of the record that a journal is booked in.
-const BOOK_LEN: usize = 49_152;
-
-// A line has at most two outcomes, its own and that of a draft that it ends; the end of the journal has one more.
-const MOST_OUTCOMES: usize = 2 * MOST_BYTES + 1;
-
-fn book<P: Policy + Drop>(
-    rt: &HostRuntime,
-    policy: P,
-    journal: &[u8],
-    options: &Options,
-) -> anyhow::Result<()> {
-    let mut outcomes = vec![in rt.alloc(); Outcome::Done; MOST_OUTCOMES]?;
-    let mut book = [0; BOOK_LEN];
-    let booked = book_journal(policy, journal, outcomes.as_mut_slice(), &mut book);
-    let met = booked.outcomes.min(MOST_OUTCOMES);
-    let mut out = String::new(rt.alloc());
-    write_booked(
-        &mut out,
-        &booked.ledger,
-        &outcomes.as_slice()[..met],
-        &book,
-        options.lots,
-    )?;
+// Prints what becomes of a journal, and hands the record to the file that is asked for.
+fn book(rt: &HostRuntime, journal: &[u8], options: &Options) -> anyhow::Result<()> {
+    let mut book = vec![in rt.alloc(); 0; BOOK_LEN]?;
+    let out = print_journal(rt.alloc(), journal, book.as_mut_slice(), options.lots)?;
     if let Some(file) = &options.record {
         fs::write(rt, file.as_str(), book.as_slice())?;
     }
     rt.print(out.as_str())?;
     Ok(())
-}
-
-// The shop's policy: whole-lot over the journal's booking method.
-fn book_by_method(rt: &HostRuntime, journal: &[u8], options: &Options) -> anyhow::Result<()> {
-    match booking_method(journal) {
-        Method::Strict => book(rt, WholeLot { below: Strict }, journal, options),
-        Method::Fifo => book(rt, WholeLot { below: Fifo }, journal, options),
-        Method::Lifo => book(rt, WholeLot { below: Lifo }, journal, options),
-    }
 }
 
 fn main(rt: HostRuntime) -> anyhow::Result<ExitCode> {
@@ -64,6 +31,6 @@ fn main(rt: HostRuntime) -> anyhow::Result<ExitCode> {
     rt.stdin()
         .take(MOST_BYTES as u64 + 1)
         .read_to_end(&mut journal)?;
-    book_by_method(&rt, journal.as_slice(), &options)?;
+    book(&rt, journal.as_slice(), &options)?;
     Ok(ExitCode::SUCCESS)
 }

@@ -3,4 +3,5 @@
 
 pub mod booked;
 pub mod figures;
+pub mod journal;
 pub mod rows;
