@@ -3,6 +3,8 @@ use pages::figures::{Day, Hundredths};
 use pages::rows::{LotRead, RowRead};
 use std::fmt;
 
+// A type around another, since only a type of one's own can be given a `Display`.
+#[derive(Clone, Copy)]
 pub struct Printed<T>(pub T);
 
 fn kind_name(kind: u8) -> &'static str {
