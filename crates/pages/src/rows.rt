@@ -1,5 +1,7 @@
 // The rows of a record, read from its bytes at the offsets of docs/RECORD.md. A ledger never reads a record: that is for its host.
-ghost use Rattle.std.specs.Prelude.{◌+◌, ◌≤◌, length};
+ghost use Rattle.std.specs.Prelude.{◌≡◌, ◌+◌, ◌≤◌, length, take, drop};
+ghost use Rattle.pages.specs.Rows.{rows_in};
+ghost use Rattle.record.specs.Promises.{number_at, signed_at};
 
 const HEADER_LEN: usize = 24;
 
@@ -7,6 +9,7 @@ const ROW_LEN: usize = 36;
 
 fn four_at(bytes: &[u8], at: usize) -> [u8; 4]
     requires { at + 4 ≤ length bytes.now }
+    ensures { result ≡ take 4 (drop at bytes.now) }
 {
     [bytes[at], bytes[at + 1], bytes[at + 2], bytes[at + 3]]
 }
@@ -34,18 +37,25 @@ pub struct RowRead {
     pub flag: u8,
 }
 
-// The rows that the header counts; none, where there is no room for a header.
-pub fn rows_of(book: &[u8]) -> &[[u8; ROW_LEN]] {
+// The rows that the header counts, as far as the record has them; none, where there is no room for a header.
+pub fn rows_of(book: &[u8]) -> &[[u8; ROW_LEN]]
+    ensures { result.now ≡ rows_in book.now }
+{
     if book.len() < HEADER_LEN {
         return &[];
     }
-    let (header, behind) = book.split_at(HEADER_LEN);
+    let (_, behind) = book.split_at(HEADER_LEN);
     let (rows, _) = behind.as_chunks::<ROW_LEN>();
-    let written = u32::from_le_bytes(four_at(header, 8)) as usize;
+    let written = u32::from_le_bytes(four_at(book, 8)) as usize;
     &rows[..written.min(rows.len())]
 }
 
-fn read_lot(row: &[u8; ROW_LEN]) -> LotRead {
+fn read_lot(row: &[u8; ROW_LEN]) -> LotRead
+    ensures cost { result.cost ≡ number_at row.now 20 4 }
+    ensures lot_date { result.acquired ≡ number_at row.now 24 4 }
+    ensures serial { result.serial ≡ number_at row.now 28 4 }
+    ensures cost_commodity { result.currency ≡ number_at row.now 32 1 }
+{
     LotRead {
         cost: u32::from_le_bytes(four_at(row, 20)),
         acquired: u32::from_le_bytes(four_at(row, 24)),
@@ -54,7 +64,21 @@ fn read_lot(row: &[u8; ROW_LEN]) -> LotRead {
     }
 }
 
-pub fn read(row: &[u8; ROW_LEN]) -> RowRead {
+// Each field is the number in its bytes.
+pub fn read(row: &[u8; ROW_LEN]) -> RowRead
+    ensures line { result.line ≡ number_at row.now 0 4 }
+    ensures transaction { result.transaction ≡ number_at row.now 4 4 }
+    ensures date { result.date ≡ number_at row.now 8 4 }
+    ensures account { result.account ≡ number_at row.now 12 2 }
+    ensures commodity { result.commodity ≡ number_at row.now 14 1 }
+    ensures kind { result.kind ≡ number_at row.now 15 1 }
+    ensures units { result.units ≡ signed_at row.now 16 }
+    ensures cost { result.lot.cost ≡ number_at row.now 20 4 }
+    ensures lot_date { result.lot.acquired ≡ number_at row.now 24 4 }
+    ensures serial { result.lot.serial ≡ number_at row.now 28 4 }
+    ensures cost_commodity { result.lot.currency ≡ number_at row.now 32 1 }
+    ensures flag { result.flag ≡ number_at row.now 33 1 }
+{
     RowRead {
         line: u32::from_le_bytes(four_at(row, 0)),
         transaction: u32::from_le_bytes(four_at(row, 4)),
