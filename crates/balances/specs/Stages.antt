@@ -8,10 +8,10 @@ use Rattle.booking.specs.Weighing.{complete}
 use Rattle.booking.specs.Balances.{balances_after, all_within, first_met, weighing_tests}
 use Rattle.booking.specs.Stages.{unless}
 
--- 27, or the balances after entries
-abbrev pub settled_balances : List ℤ → List Entry → Result (List ℤ) Refusal
-settled_balances bs es = cond (all_within (balances_after bs es)) (Ok (balances_after bs es)) (Err BalanceTooLarge)
+-- 27: whether balances may become what entries make of them
+abbrev pub settled_balances : List ℤ → List Entry → Result (Unit {0}) Refusal
+settled_balances bs es = cond (all_within (balances_after bs es)) (Ok tt) (Err BalanceTooLarge)
 
--- the first of 25, 26 and 27 that a draft meets, or its entries with the blank filled and the balances after them
-abbrev pub weighed : List Posting → Option ℕ → List ℤ → List Entry → Result (List Entry × List ℤ) Refusal
-weighed ps own bs es = unless (first_met (weighing_tests ps own bs es)) (complete es, balances_after bs (complete es))
+-- the first of 25, 26 and 27 that a draft meets, or its entries with the blank filled
+abbrev pub weighed : List Posting → Option ℕ → List ℤ → List Entry → Result (List Entry) Refusal
+weighed ps own bs es = unless (first_met (weighing_tests ps own bs es)) (complete es)

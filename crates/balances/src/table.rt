@@ -1,17 +1,18 @@
 // The plain balances: 16 commodities for each of 64 accounts, none larger than the largest that a settling leaves.
 // Clauses see them as the list of the places.
-ghost use Rattle.std.specs.Prelude.{◌≡◌, ◌≤◌, unsigned_abs};
-ghost use Rattle.stock.specs.Promises.{map_ok};
-ghost use Rattle.booking.specs.Balances.{no_balances, balance_in, largest_balance};
+ghost use Rattle.std.specs.Prelude.{◌≡◌, ◌≤◌, true, unsigned_abs};
+ghost use Rattle.booking.specs.Balances.{no_balances, balance_in, balances_after, all_within, largest_balance};
 ghost use Rattle.balances.specs.Stages.{settled_balances};
 
-use self::adding::{add_entries, all_within, place};
+use self::adding::{add_entries, place};
+use self::staying::all_stay;
 use booking::entries::Entries;
 use booking::limits::{MOST_ACCOUNTS, MOST_COMMODITIES};
 use refusal::Refusal;
 use std::marker::Model;
 
 mod adding;
+mod staying;
 
 pub const PLACES: usize = MOST_ACCOUNTS * MOST_COMMODITIES;
 
@@ -54,16 +55,22 @@ impl Balances {
             .unwrap_or(0)
     }
 
-    // The balances after the entries of a draft; 27 where one would be too large.
-    #[tactic(auto, using(crate::proofs::Bounds::near_none))]
-    pub fn after(&self, entries: &Entries) -> Result<Balances, Refusal>
+    // 27, where a balance would be too large after the entries of a draft.
+    pub fn check(&self, entries: &Entries) -> Result<(), Refusal>
         ensures { result ≡ settled_balances self.now entries.now }
     {
-        let mut places = self.places;
-        add_entries(&mut places, entries);
-        if !all_within(&places) {
+        if !all_stay(&self.places, entries) {
             return Err(Refusal::BalanceTooLarge);
         }
-        Ok(Balances { places })
+        Ok(())
+    }
+
+    // The balances become those after the entries of a draft.
+    #[tactic(auto, using(crate::proofs::Bounds::near_none))]
+    pub fn add(&mut self, entries: &Entries)
+        requires { all_within (balances_after self.old entries.now) ≡ true }
+        ensures { self.new ≡ balances_after self.old entries.now }
+    {
+        add_entries(&mut self.places, entries);
     }
 }

@@ -1,6 +1,7 @@
 // A booked draft is weighed: 25, 26 and 27, in the order of the list of refusals.
-ghost use Rattle.std.specs.Prelude.{◌≡◌};
+ghost use Rattle.std.specs.Prelude.{◌≡◌, true, OnOk};
 ghost use Rattle.stock.specs.Promises.{map_ok};
+ghost use Rattle.booking.specs.Balances.{all_within, balances_after};
 ghost use Rattle.balancing.specs.Summary.{entries_after};
 ghost use Rattle.balances.specs.Stages.{weighed};
 
@@ -10,17 +11,19 @@ use booking::entries::Entries;
 use booking::posting::Posting;
 use refusal::Refusal;
 
-// Fills the blank among the entries and answers the balances after them, or the first refusal that is met.
+// Fills the blank among the entries and finds that the balances stay within their bound after them, or answers the first refusal
+// that is met.
 // `own` is the own commodity of the blank's account. Refused 25 or 26, the entries stay as they are; refused 27, their blank is filled.
 pub fn weigh(
     postings: &[Posting],
     entries: &mut Entries,
     own: Option<u8>,
     balances: &Balances,
-) -> Result<Balances, Refusal>
-    ensures defined { map_ok (λ b. (entries.new, b)) result ≡ weighed postings.now own balances.now entries.old }
+) -> Result<(), Refusal>
+    ensures defined { map_ok (λ _. entries.new) result ≡ weighed postings.now own balances.now entries.old }
     ensures entries { entries.new ≡ entries_after postings.now own entries.old }
+    ensures within { OnOk result (all_within (balances_after balances.now entries.new) ≡ true) }
 {
     balance(postings, entries, own)?;
-    balances.after(entries)
+    balances.check(entries)
 }

@@ -1,28 +1,31 @@
 // What a draft comes to: the open lots after it, and its entries. Postings are booked one after another,
 // each upon the lots that the one before left; the first that is refused ends it.
-ghost use Rattle.std.specs.Prelude.{◌≡◌, ◌+◌, ◌≤◌, ◌<◌, ◌∷◌, [], ◌++◌, true, length, OnOk};
-ghost use Rattle.std.specs.List.{list_all};
+ghost use Rattle.std.specs.Prelude.{◌≡◌, ◌+◌, ◌≤◌, ◌<◌, [], true, length, OnOk};
 ghost use Rattle.lots.specs.Rows.{in_range};
-ghost use Rattle.stock.specs.Promises.{map_ok, draw_in_range};
-ghost use Rattle.booking.specs.Postings.{entry, draw_entries, lot_date};
-ghost use Rattle.booking.specs.Ranges.{posting_in_range, entry_kind_in_range};
+ghost use Rattle.stock.specs.Promises.{map_ok};
+ghost use Rattle.stock.specs.Tables.{no_lots};
+ghost use Rattle.booking.specs.Postings.{lot_date};
+ghost use Rattle.booking.specs.Ranges.{posting_in_range};
 ghost use Rattle.booking.specs.Stages.{book_purchase, book_reduction, book_kind, book_posting, Grows, HasRoom, HasSerials};
 
 use crate::entries::Entries;
-use crate::entry::{Entry, EntryKind};
+use crate::entry::EntryKind;
 use crate::posting::{Posting, PostingKind};
 use lots::lot::Lot;
 use lots::policy::Policy;
 use lots::rows::{Key, LotRow};
-use matching::wanted::{Draw, Reduction, Wanted};
+use matching::wanted::{Reduction, Wanted};
 use refusal::{Fault, Refusal};
 use std::marker::Model;
 use stock::table::LotTable;
+use stock::table::reduction::{Draws, no_draws};
 
 #[derive(Drop)]
 pub struct Booked {
     pub lots: LotTable,
     pub entries: Entries,
+    // of the last reduction: kept, so that no reduction makes a list
+    draws: Draws,
 }
 
 // Clauses see the lots and the entries as a pair.
@@ -38,24 +41,24 @@ impl Model for Booked {
 
 // What is asked of each posting is no invariant: it holds only while postings are left to book.
 impl Booked {
-    // One entry more.
-    fn enter(&mut self, line: u32, kind: EntryKind)
-        requires room { length self.old.1 < 288 }
-        requires ranged { entry_kind_in_range kind ≡ true }
-        ensures { self.new ≡ (self.old.0, self.old.1 ++ (entry line kind ∷ [])) }
+    // No lot, and no entry.
+    pub fn new() -> Booked
+        ensures { result ≡ (no_lots, []) }
     {
-        self.entries.push(Entry { line, kind }).unwrap();
+        Booked {
+            lots: LotTable::new(),
+            entries: Entries::new(),
+            draws: no_draws(),
+        }
     }
 
-    // One entry more for each draw.
-    fn enter_draws(&mut self, line: u32, draws: &[Draw])
-        requires room { length self.old.1 + length draws.now ≤ 288 }
-        requires ranged { list_all draw_in_range draws.now ≡ true }
-        ensures { self.new ≡ (self.old.0, self.old.1 ++ draw_entries line draws.now) }
+    // These lots, and no entry.
+    pub(crate) fn start(&mut self, lots: &LotTable)
+        ensures started { self.new ≡ (lots.now, []) }
+        ensures few { length self.new.0.lots ≤ 256 }
     {
-        for draw in draws {
-            self.enter(line, EntryKind::Drew(*draw));
-        }
+        self.lots.copy_from(lots);
+        self.entries.clear();
     }
 
     fn purchase(&mut self, line: u32, key: Key, units: u32) -> Result<(), Refusal>
@@ -73,7 +76,8 @@ impl Booked {
         })
         .unwrap();
         let serial = self.lots.purchase(&bought)?;
-        self.enter(line, EntryKind::Bought { key, units, serial });
+        self.entries
+            .enter(line, EntryKind::Bought { key, units, serial });
         Ok(())
     }
 
@@ -84,8 +88,8 @@ impl Booked {
         ensures grows { Grows self.old self.new }
         ensures entered { OnOk result (length self.old.1 < length self.new.1) }
     {
-        let draws = self.lots.reduce(asked)?;
-        self.enter_draws(line, draws.as_slice());
+        self.lots.reduce(asked, &mut self.draws)?;
+        self.entries.enter_draws(line, self.draws.as_slice());
         Ok(())
     }
 
@@ -111,7 +115,7 @@ impl Booked {
         } = *posting;
         match kind {
             PostingKind::Blank => {
-                self.enter(line, EntryKind::Unfilled { account });
+                self.entries.enter(line, EntryKind::Unfilled { account });
                 Ok(())
             }
             PostingKind::Plain { amount, commodity } => {
@@ -120,7 +124,7 @@ impl Booked {
                     amount,
                     commodity,
                 };
-                self.enter(line, kind);
+                self.entries.enter(line, kind);
                 Ok(())
             }
             // the date of the braces, else the transaction's

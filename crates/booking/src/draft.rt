@@ -1,5 +1,5 @@
 // A draft, and booking one whole.
-ghost use Rattle.std.specs.Prelude.{◌≡◌, ◌+◌, ◌≤◌, true, length, IfOk, OnOk};
+ghost use Rattle.std.specs.Prelude.{◌≡◌, ◌+◌, ◌≤◌, true, length, OnOk};
 ghost use Rattle.std.specs.List.{list_all};
 ghost use Rattle.stock.specs.Promises.{map_ok};
 ghost use Rattle.stock.specs.Tables.{last_serial};
@@ -7,7 +7,6 @@ ghost use Rattle.booking.specs.Ranges.{posting_in_range};
 ghost use Rattle.booking.specs.Stages.{book_postings, book_draft};
 
 use crate::booked::Booked;
-use crate::entries::Entries;
 use crate::posting::Posting;
 use crate::postings::Postings;
 use lots::policy::Policy;
@@ -49,22 +48,20 @@ impl Booked {
 }
 
 // What a draft of this day comes to upon the open lots, which stay as they are; or the fault of the first posting that is refused.
-// A table is far from its last serial: no more lots are opened than rows are written.
+// They go to the place that is lent, whatever was in it; refused, what is in it says nothing. A table is far from its last serial:
+// no more lots are opened than rows are written.
 pub fn book<P: Policy>(
     policy: &P,
     lots: &LotTable,
     day: u32,
     postings: &Postings,
-) -> Result<Booked, Fault>
+    booked: &mut Booked,
+) -> Result<(), Fault>
     requires { lots.now.next + 288 ≤ last_serial }
-    ensures defined { result ≡ book_draft (P.Policy.order policy.now) day lots.now postings.now }
-    ensures serials { IfOk result (λ b. b.0.next ≤ lots.now.next + length b.1) }
-    ensures entered { IfOk result (λ b. length postings.now ≤ length b.1) }
+    ensures defined { map_ok (λ _. booked.new) result ≡ book_draft (P.Policy.order policy.now) day lots.now postings.now }
+    ensures serials { OnOk result (booked.new.0.next ≤ lots.now.next + length booked.new.1) }
+    ensures entered { OnOk result (length postings.now ≤ length booked.new.1) }
 {
-    let mut booked = Booked {
-        lots: lots.duplicate(),
-        entries: Entries::new(),
-    };
-    booked.book_postings(policy, day, postings.as_slice())?;
-    Ok(booked)
+    booked.start(lots);
+    booked.book_postings(policy, day, postings.as_slice())
 }

@@ -1,14 +1,19 @@
 // The entries of a draft, each within the range of a row. A draft of 16 postings upon 256 lots gives at most 288:
 // with each posting, entries and open lots together grow by at most 2.
-ghost use Rattle.std.specs.Prelude.{◌≡◌};
-ghost use Rattle.booking.specs.Ranges.{entry_in_range};
+ghost use Rattle.std.specs.Prelude.{◌≡◌, ◌+◌, ◌≤◌, ◌<◌, ◌∷◌, [], ◌++◌, true, length};
+ghost use Rattle.std.specs.List.{list_all};
+ghost use Rattle.stock.specs.Promises.{draw_in_range};
+ghost use Rattle.booking.specs.Postings.{entry, draw_entries};
+ghost use Rattle.booking.specs.Ranges.{entry_in_range, entry_kind_in_range};
 ghost use Rattle.booking.specs.Rows.{rows_of};
 ghost use Rattle.booking.specs.Weighing.{blank_account, fill};
 
 use crate::entry::{Entry, EntryKind, Transaction};
 use crate::ranged::{Ranged, RangedList};
 use bounded::list::Bounded;
+use matching::wanted::Draw;
 use record::rows::{Row, RowKind};
+use values::flag::Flag;
 
 // The most entries of a draft.
 pub const MOST_ENTRIES: usize = 288;
@@ -43,6 +48,26 @@ pub fn blank_account(entries: &[Entry]) -> Option<u16>
 }
 
 impl Entries {
+    // One entry more.
+    pub(crate) fn enter(&mut self, line: u32, kind: EntryKind)
+        requires room { length self.old < 288 }
+        requires ranged { entry_kind_in_range kind ≡ true }
+        ensures { self.new ≡ self.old ++ (entry line kind ∷ []) }
+    {
+        self.push(Entry { line, kind }).unwrap();
+    }
+
+    // One entry more for each draw.
+    pub(crate) fn enter_draws(&mut self, line: u32, draws: &[Draw])
+        requires room { length self.old + length draws.now ≤ 288 }
+        requires ranged { list_all draw_in_range draws.now ≡ true }
+        ensures { self.new ≡ self.old ++ draw_entries line draws.now }
+    {
+        for draw in draws {
+            self.enter(line, EntryKind::Drew(*draw));
+        }
+    }
+
     // The first blank becomes an amount of a commodity; no other entry changes.
     pub fn fill_blank(&mut self, amount: i32, commodity: u8)
         ensures { self.new ≡ fill amount commodity self.old }
@@ -60,23 +85,29 @@ impl Entries {
         }
     }
 
-    // One row for each entry, in order.
-    pub fn rows(&self, transaction: &Transaction) -> Rows
-        ensures { result ≡ rows_of transaction.now self.now }
+    // Lists one row for each entry, in order, whatever the list had.
+    pub fn list_rows(&self, transaction: &Transaction, rows: &mut Rows)
+        ensures { rows.new ≡ rows_of transaction.now self.now }
     {
-        let mut rows = Bounded::new(Row {
-            line: 0,
-            transaction: 0,
-            date: 0,
-            account: 0,
-            commodity: 0,
-            kind: RowKind::Plain,
-            units: 0,
-            flag: transaction.flag,
-        });
+        rows.clear();
         for entry in self.as_slice() {
             rows.push(entry.row(transaction)).unwrap();
         }
-        rows
     }
+}
+
+// An empty list of rows.
+pub fn no_rows() -> Rows
+    ensures { result ≡ [] }
+{
+    Bounded::new(Row {
+        line: 0,
+        transaction: 0,
+        date: 0,
+        account: 0,
+        commodity: 0,
+        kind: RowKind::Plain,
+        units: 0,
+        flag: Flag::Complete,
+    })
 }

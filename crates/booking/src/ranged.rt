@@ -61,6 +61,13 @@ impl<T: Copy + Ranged, const N: usize> RangedList<T, N> {
         self.list.push(item)
     }
 
+    // Takes all items out.
+    pub(crate) fn clear(&mut self)
+        ensures { self.new ≡ [] }
+    {
+        self.list.clear();
+    }
+
     // Writes over the item at a place; past the end there is none.
     #[tactic(auto, using(crate::proofs::Passing::pass_set))]
     pub(crate) fn put(&mut self, place: usize, item: T)

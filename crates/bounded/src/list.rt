@@ -81,13 +81,19 @@ impl<T: Copy, const N: usize> Bounded<T, N> {
         }
     }
 
-    // A second list of the same items. It is no `Clone`: that may fail for want of memory, and this cannot.
-    pub fn duplicate(&self) -> Self
-        ensures { result ≡ self.now }
+    // Takes all items out.
+    pub fn clear(&mut self)
+        ensures { self.new ≡ [] }
     {
-        Bounded {
-            slots: self.slots,
-            len: self.len,
-        }
+        self.len = 0;
+    }
+
+    // Becomes a list of the same items. It is no `Clone`: this moves no unused place, and makes no list.
+    pub fn copy_from(&mut self, other: &Self)
+        ensures { self.new ≡ other.now }
+    {
+        let items = other.as_slice();
+        self.slots[..items.len()].copy_from_slice(items);
+        self.len = items.len();
     }
 }

@@ -1,9 +1,9 @@
 // Plain balances and open lots. Clauses see both together as the books of a ledger's state.
-ghost use Rattle.std.specs.Prelude.{◌≡◌, ◌≤◌, pos, None, length, if◌then◌else◌, unsigned_abs};
+ghost use Rattle.std.specs.Prelude.{◌≡◌, ◌≤◌, true, OnOk, pos, None, length, if◌then◌else◌, unsigned_abs};
 ghost use Rattle.matching.specs.Matching.{matches, units_matching};
 ghost use Rattle.values.specs.Names.{lies_under};
 ghost use Rattle.stock.specs.Promises.{map_ok};
-ghost use Rattle.booking.specs.Balances.{largest_balance};
+ghost use Rattle.booking.specs.Balances.{balances_after, all_within, largest_balance};
 ghost use Rattle.booking.specs.Postings.{wanted_lots};
 ghost use Rattle.booking.specs.Weighing.{is_zero};
 ghost use Rattle.balances.specs.Stages.{weighed};
@@ -13,6 +13,7 @@ ghost use Rattle.holdings.specs.Bounds.{most_in_lots, largest_holding};
 
 use balances::table::Balances;
 use balances::weighing::weigh;
+use booking::booked::Booked;
 use booking::entries::Entries;
 use booking::limits::MOST_COMMODITIES;
 use booking::posting::Posting;
@@ -50,11 +51,13 @@ impl Holdings {
         }
     }
 
-    // What is held once a draft is settled.
-    pub fn of(balances: Balances, lots: LotTable) -> Holdings
-        ensures { result ≡ record { balances = balances; table = lots } }
+    // What is held once a booked draft is settled.
+    pub fn settle(&mut self, booked: &Booked)
+        requires { all_within (balances_after self.old.balances booked.now.1) ≡ true }
+        ensures { self.new ≡ record { balances = balances_after self.old.balances booked.now.1; table = booked.now.0 } }
     {
-        Holdings { balances, lots }
+        self.balances.add(&booked.entries);
+        self.lots.copy_from(&booked.lots);
     }
 
     pub fn lots(&self) -> &LotTable
@@ -63,15 +66,16 @@ impl Holdings {
         &self.lots
     }
 
-    // Fills the blank among the entries of a draft and answers the plain balances after them, or the first of 25 to 27 that it meets.
+    // Fills the blank among the entries of a draft, or answers the first of 25 to 27 that it meets.
     // `own` is the own commodity of the blank's account.
     pub fn weigh(
         &self,
         postings: &[Posting],
         entries: &mut Entries,
         own: Option<u8>,
-    ) -> Result<Balances, Refusal>
-        ensures { map_ok (λ b. (entries.new, b)) result ≡ weighed postings.now own self.now.balances entries.old }
+    ) -> Result<(), Refusal>
+        ensures weighed { map_ok (λ _. entries.new) result ≡ weighed postings.now own self.now.balances entries.old }
+        ensures within { OnOk result (all_within (balances_after self.now.balances entries.new) ≡ true) }
     {
         weigh(postings, entries, own, &self.balances)
     }

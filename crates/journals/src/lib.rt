@@ -17,6 +17,7 @@ ghost use Rattle.reader.specs.Readings.{unread, books, read_from, journal_read};
 use crate::places::place;
 use books::outcome::Outcome;
 use ledger::Ledger;
+use ledger::desk::Desk;
 use lines::directive::{Directive, Method};
 use lines::journal::{check_journal, split_line};
 use lines::line::read_line;
@@ -47,13 +48,14 @@ fn read_lines<P: Policy>(
         number: 1,
     };
     let mut slip = None;
+    let mut desk = Desk::new();
     let mut count = 0;
     while !reader.is_done() {
         let Step {
             phase: _,
             slip: back,
             outcome,
-        } = reader.step(slip, ledger, book);
+        } = reader.step(slip, ledger, book, &mut desk);
         slip = back;
         count = place(answers, count, outcome);
     }

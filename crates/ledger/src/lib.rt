@@ -10,6 +10,7 @@ use std::marker::Model;
 
 pub mod closing;
 pub mod dated;
+pub mod desk;
 pub mod drafts;
 mod fault;
 mod lookups;

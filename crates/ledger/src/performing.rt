@@ -10,6 +10,7 @@ ghost use Rattle.std.specs.Option.{option_map};
 ghost use Rattle.ledger.specs.Answers.{carried_out, outcome_of};
 
 use crate::Ledger;
+use crate::desk::Desk;
 use crate::slip::Slip;
 use books::call::{Call, GivenAmount};
 use books::outcome::Outcome;
@@ -41,12 +42,18 @@ impl<P: Policy> Ledger<P> {
         done(answer)
     }
 
-    fn perform_settling(&mut self, slip: u32, lent: usize, book: &mut [u8]) -> Outcome
+    fn perform_settling(
+        &mut self,
+        slip: u32,
+        lent: usize,
+        book: &mut [u8],
+        desk: &mut Desk,
+    ) -> Outcome
         ensures answer { (result, self.new) ≡ carried_out P.Policy.order self.old (lend_within (length book.old) (settling slip lent)) }
         ensures book { book.new ≡ record_after_call (P.Policy.order self.old.policy) self.old.state (lend_within (length book.old) (settling slip lent)) book.old }
     {
         let lent = lent.min(book.len());
-        match self.settle(Slip { number: slip }, &mut book[..lent]) {
+        match self.settle(Slip { number: slip }, &mut book[..lent], desk) {
             Ok(number) => Outcome::Settled(number),
             Err((Slip { number: _ }, fault)) => Outcome::Refused(fault),
         }
@@ -70,7 +77,7 @@ impl<P: Policy> Ledger<P> {
     }
 
     // One call, whichever it is.
-    fn dispatch(&mut self, call: Call<'_>, book: &mut [u8]) -> Outcome
+    fn dispatch(&mut self, call: Call<'_>, book: &mut [u8], desk: &mut Desk) -> Outcome
         ensures answer { (result, self.new) ≡ carried_out P.Policy.order self.old (lend_within (length book.old) (given_call call.entry)) }
         ensures book { book.new ≡ record_after_call (P.Policy.order self.old.policy) self.old.state (lend_within (length book.old) (given_call call.entry)) book.old }
     {
@@ -108,7 +115,7 @@ impl<P: Policy> Ledger<P> {
                 account,
                 amount,
             } => self.perform_posting(slip, source, account, amount),
-            Call::Settle { slip, lent } => self.perform_settling(slip, lent, book),
+            Call::Settle { slip, lent } => self.perform_settling(slip, lent, book, desk),
             Call::Tear { slip } => self.perform_tearing(slip),
             Call::WriteHeader { lent } => self.perform_header(lent, book),
         }
@@ -117,11 +124,11 @@ impl<P: Policy> Ledger<P> {
     // Carries out one call, or answers the first refusal of its table that it meets. A settling, and the header call, are lent
     // as many bytes of the record as they say, or all if it has fewer. That the first refusal is answered is shown here once,
     // and not for each call above.
-    pub fn perform(&mut self, call: Call<'_>, book: &mut [u8]) -> Outcome
+    pub fn perform(&mut self, call: Call<'_>, book: &mut [u8], desk: &mut Desk) -> Outcome
         ensures answer { (result, self.new) ≡ carried_out P.Policy.order self.old (lend_within (length book.old) (given_call call.entry)) }
         ensures refused_exactly_where { AnswersFirst (P.Policy.order self.old.policy) self.old.state (lend_within (length book.old) (given_call call.entry)) (result, self.new.state) }
         ensures book { book.new ≡ record_after_call (P.Policy.order self.old.policy) self.old.state (lend_within (length book.old) (given_call call.entry)) book.old }
     {
-        self.dispatch(call, book)
+        self.dispatch(call, book, desk)
     }
 }

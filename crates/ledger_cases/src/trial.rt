@@ -9,6 +9,7 @@ use crate::words::Request;
 use books::call::{Call, GivenAmount};
 use books::outcome::Outcome;
 use ledger::Ledger;
+use ledger::desk::Desk;
 use lots::policy::{Fifo, Lifo, Policy, Strict, WholeLot};
 use std::alloc::Global;
 use std::fmt::Write;
@@ -22,6 +23,7 @@ struct Trial<P> {
     heap: Global,
     ledger: Ledger<P>,
     book: Vec<u8>,
+    desk: Desk,
 }
 
 // What a step was answered, in the words of the table.
@@ -37,6 +39,7 @@ impl<P: Policy + Drop> Trial<P> {
             heap,
             ledger: Ledger::new(policy),
             book: vec![in heap; UNWRITTEN; length]?,
+            desk: Desk::new(),
         })
     }
 
@@ -45,7 +48,8 @@ impl<P: Policy + Drop> Trial<P> {
     }
 
     fn perform(&mut self, call: Call<'_>) -> Outcome {
-        self.ledger.perform(call, self.book.as_mut_slice())
+        self.ledger
+            .perform(call, self.book.as_mut_slice(), &mut self.desk)
     }
 
     // Sixteen postings of 0, as many as a draft takes. Their source numbers follow that of the beginning.

@@ -8,6 +8,7 @@ use crate::phase::Phase;
 use crate::step::{Step, directive_line, post_line, settle};
 use books::outcome::Outcome;
 use ledger::Ledger;
+use ledger::desk::Desk;
 use ledger::slip::Slip;
 use lines::journal::split_line;
 use lines::line::{LineKind, kind_of, stray_fault};
@@ -46,6 +47,7 @@ fn take<P: Policy>(
     number: u32,
     line: &[u8],
     book: &mut [u8],
+    desk: &mut Desk,
 ) -> Step
     requires { Held phase slip ledger.old.state }
     ensures phase { result.phase ≡ (taking_turn (P.Policy.order ledger.old.policy) ledger.old.state (length book.old) number phase line.now).next }
@@ -58,7 +60,7 @@ fn take<P: Policy>(
         (Phase::InTransaction, LineKind::Posting) => {
             post_line(ledger, slip.unwrap(), number, line)
         }
-        (Phase::InTransaction, _) => settle(ledger, slip.unwrap(), book),
+        (Phase::InTransaction, _) => settle(ledger, slip.unwrap(), book, desk),
         (Phase::Outside, LineKind::Posting) => Step {
             phase: Phase::Skipping,
             slip,
@@ -76,13 +78,19 @@ fn take<P: Policy>(
         },
         (_, LineKind::Other) => {
             let_none_go(slip);
-            directive_line(ledger, number, line, book)
+            directive_line(ledger, number, line, book, desk)
         }
     }
 }
 
 // The end of the journal.
-fn end<P: Policy>(phase: Phase, slip: Option<Slip>, ledger: &mut Ledger<P>, book: &mut [u8]) -> Step
+fn end<P: Policy>(
+    phase: Phase,
+    slip: Option<Slip>,
+    ledger: &mut Ledger<P>,
+    book: &mut [u8],
+    desk: &mut Desk,
+) -> Step
     requires { Held phase slip ledger.old.state }
     ensures phase { result.phase ≡ (step_turn (P.Policy.order ledger.old.policy) ledger.old.state (length book.old) 0 phase []).next }
     ensures outcome { result.outcome ≡ (step_turn (P.Policy.order ledger.old.policy) ledger.old.state (length book.old) 0 phase []).outcome }
@@ -91,7 +99,7 @@ fn end<P: Policy>(phase: Phase, slip: Option<Slip>, ledger: &mut Ledger<P>, book
     ensures book { book.new ≡ record_after_turn P.Policy.order ledger.old (step_turn (P.Policy.order ledger.old.policy) ledger.old.state (length book.old) 0 phase []) book.old }
 {
     match (phase, slip) {
-        (Phase::InTransaction, Some(slip)) => settle(ledger, slip, book),
+        (Phase::InTransaction, Some(slip)) => settle(ledger, slip, book, desk),
         (_, slip) => Step {
             phase: Phase::Outside,
             slip,
@@ -113,6 +121,7 @@ impl<'a> Reader<'a> {
         slip: Option<Slip>,
         ledger: &mut Ledger<P>,
         book: &mut [u8],
+        desk: &mut Desk,
     ) -> Step
         requires held { Held self.old.phase slip ledger.old.state }
         requires few { self.old.number + length self.old.rest.now ≤ 60001 }
@@ -128,11 +137,11 @@ impl<'a> Reader<'a> {
     {
         let phase = self.phase;
         let Some(cut) = split_line(self.rest) else {
-            let step = end(phase, slip, ledger, book);
+            let step = end(phase, slip, ledger, book, desk);
             self.phase = step.phase;
             return step;
         };
-        let step = take(phase, slip, ledger, self.number, cut.line, book);
+        let step = take(phase, slip, ledger, self.number, cut.line, book, desk);
         self.phase = step.phase;
         if !ends_draft(phase, Some(kind_of(cut.line))) {
             self.rest = cut.rest;

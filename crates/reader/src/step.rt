@@ -19,6 +19,7 @@ use crate::phase::Phase;
 use books::call::Call;
 use books::outcome::Outcome;
 use ledger::Ledger;
+use ledger::desk::Desk;
 use ledger::slip::Slip;
 use lines::directive::{Directive, Posting};
 use lines::fault::LineFault;
@@ -66,7 +67,12 @@ fn tear<P: Policy>(ledger: &mut Ledger<P>, slip: Slip)
 }
 
 // Settles the draft of a slip, or tears it.
-pub(crate) fn settle<P: Policy>(ledger: &mut Ledger<P>, slip: Slip, book: &mut [u8]) -> Step
+pub(crate) fn settle<P: Policy>(
+    ledger: &mut Ledger<P>,
+    slip: Slip,
+    book: &mut [u8],
+    desk: &mut Desk,
+) -> Step
     requires { HoldsSlip ledger.old.state slip.number }
     ensures phase { result.phase ≡ (settling_turn (P.Policy.order ledger.old.policy) ledger.old.state (length book.old)).next }
     ensures outcome { result.outcome ≡ (settling_turn (P.Policy.order ledger.old.policy) ledger.old.state (length book.old)).outcome }
@@ -74,7 +80,7 @@ pub(crate) fn settle<P: Policy>(ledger: &mut Ledger<P>, slip: Slip, book: &mut [
     ensures ledger { ledger.new ≡ ledger_after P.Policy.order ledger.old (settling_turn (P.Policy.order ledger.old.policy) ledger.old.state (length book.old)) }
     ensures book { book.new ≡ record_after_turn P.Policy.order ledger.old (settling_turn (P.Policy.order ledger.old.policy) ledger.old.state (length book.old)) book.old }
 {
-    let outcome = match ledger.settle(slip, book) {
+    let outcome = match ledger.settle(slip, book, desk) {
         Ok(number) => Outcome::Settled(number),
         Err((slip, fault)) => {
             tear(ledger, slip);
@@ -177,6 +183,7 @@ fn carry_out<P: Policy>(
     number: u32,
     directive: Directive<'_>,
     book: &mut [u8],
+    desk: &mut Desk,
 ) -> Step
     ensures phase { result.phase ≡ (said_turn (P.Policy.order ledger.old.policy) ledger.old.state number (said directive.entry)).next }
     ensures outcome { result.outcome ≡ (said_turn (P.Policy.order ledger.old.policy) ledger.old.state number (said directive.entry)).outcome }
@@ -198,6 +205,7 @@ fn carry_out<P: Policy>(
                 name: name.text,
             },
             book,
+            desk,
         )),
         Directive::Open {
             date,
@@ -211,6 +219,7 @@ fn carry_out<P: Policy>(
                 own: commodity.map(|own| own.text),
             },
             book,
+            desk,
         )),
         Directive::Close { date, account } => answered(ledger.perform(
             Call::Close {
@@ -219,6 +228,7 @@ fn carry_out<P: Policy>(
                 account: account.text,
             },
             book,
+            desk,
         )),
         Directive::Balance {
             date,
@@ -235,6 +245,7 @@ fn carry_out<P: Policy>(
                 commodity: commodity.text,
             },
             book,
+            desk,
         )),
     }
 }
@@ -245,6 +256,7 @@ pub(crate) fn directive_line<P: Policy>(
     number: u32,
     line: &[u8],
     book: &mut [u8],
+    desk: &mut Desk,
 ) -> Step
     ensures phase { result.phase ≡ (directive_turn (P.Policy.order ledger.old.policy) ledger.old.state number (line_says number line.now)).next }
     ensures outcome { result.outcome ≡ (directive_turn (P.Policy.order ledger.old.policy) ledger.old.state number (line_says number line.now)).outcome }
@@ -254,7 +266,7 @@ pub(crate) fn directive_line<P: Policy>(
 {
     match read_line(line, number) {
         Ok(None) => Step::without_slip(Phase::Outside, None),
-        Ok(Some(directive)) => carry_out(ledger, number, directive, book),
+        Ok(Some(directive)) => carry_out(ledger, number, directive, book, desk),
         Err(fault) => Step::refused(fault),
     }
 }

@@ -13,6 +13,7 @@ ghost use Rattle.runs.specs.Runs.{given_calls, calls_run, answers_run};
 use books::call::Call;
 use books::outcome::Outcome;
 use ledger::Ledger;
+use ledger::desk::Desk;
 use lots::policy::Policy;
 
 fn perform_all<P: Policy>(
@@ -26,8 +27,9 @@ fn perform_all<P: Policy>(
     ensures ledger { ledger.new ≡ in_state ledger.old (state_after (P.Policy.order ledger.old.policy) ledger.old.state (given_calls (length book.old) calls.now)) }
     ensures book { book.new ≡ record_after_calls (P.Policy.order ledger.old.policy) ledger.old.state (given_calls (length book.old) calls.now) book.old }
 {
+    let mut desk = Desk::new();
     for (i, call) in calls.iter().enumerate() {
-        answers[i] = ledger.perform(*call, book);
+        answers[i] = ledger.perform(*call, book, &mut desk);
     }
 }
 

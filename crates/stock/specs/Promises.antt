@@ -41,7 +41,7 @@ abbrev pub draw_in_range : Draw → Bool
 draw_in_range d = nat_le d.units most
 
 -- where one lot matches and covers u, the reduction is accepted, whatever the policy
-abbrev pub AcceptedWithOneMatch : Wanted → ℕ → Table → Result (List Draw) Refusal → Type 0
+abbrev pub AcceptedWithOneMatch : {X : Type 0} → Wanted → ℕ → Table → Result X Refusal → Type 0
 AcceptedWithOneMatch w u t r = lots_matching (matches w) t.lots ≡ 1 → u ≤ units_matching (matches w) t.lots → refused_by r ≡ None
 
 -- refused, a call keeps every lot and the next serial

@@ -3,6 +3,7 @@ use bounded::list::Bounded;
 use lots::rows::LotRow;
 use std::marker::Model;
 
+pub mod making;
 pub mod purchase;
 pub mod reading;
 pub mod reduction;

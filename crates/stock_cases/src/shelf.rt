@@ -4,6 +4,7 @@ use lots::policy::Policy;
 use lots::rows::{Cost, Key, LotRow};
 use matching::wanted::{Draw, Reduction, Wanted};
 use stock::table::LotTable;
+use stock::table::reduction::no_draws;
 
 // Commodity 1 is EUR, commodity 2 the part; account 1 is the shelf.
 pub const ANY: Wanted = Wanted {
@@ -79,9 +80,9 @@ impl Shelf {
 
     // A second shelf with the same lots.
     pub(crate) fn duplicate(&self) -> Shelf {
-        Shelf {
-            table: self.table.duplicate(),
-        }
+        let mut second = Shelf::new();
+        second.table.copy_from(&self.table);
+        second
     }
 
     pub(crate) fn buy(&mut self, key: Key, units: u32) -> Answer {
@@ -99,12 +100,14 @@ impl Shelf {
     }
 
     pub(crate) fn sell<P: Policy>(&mut self, policy: &P, wanted: Wanted, units: u32) -> Answer {
-        match self.table.reduce(&Reduction {
+        let asked = Reduction {
             policy,
             wanted,
             units,
-        }) {
-            Ok(draws) => {
+        };
+        let mut draws = no_draws();
+        match self.table.reduce(&asked, &mut draws) {
+            Ok(()) => {
                 let list = draws.as_slice();
                 Answer::Draws(list.len(), drawn(list, 0), drawn(list, 1), drawn(list, 2))
             }

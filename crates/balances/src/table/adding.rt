@@ -1,15 +1,12 @@
-// Adding amounts to balances that are not settled yet, and their range.
+// Adding amounts to balances.
 ghost use Rattle.std.specs.Prelude.{◌≡◌, ℕ, ◌+◌, ◌-◌, ◌*◌, ◌≤◌, length};
-ghost use Rattle.booking.specs.Balances.{balance_place, add_amount, add_kind, balances_after, largest_balance, all_within};
+ghost use Rattle.booking.specs.Balances.{balance_place, add_amount, add_kind, balances_after};
 ghost use Rattle.balances.specs.Bounds.{Near};
 
 use super::PLACES;
 use booking::entries::Entries;
 use booking::entry::EntryKind;
 use booking::limits::MOST_COMMODITIES;
-
-// The largest plain balance in size, in hundredths.
-const LARGEST: u64 = 6_100_000_000_000;
 
 // Where the balance of an account in a commodity stands; both are counted from 1. They are no struct, here and in what stands on it:
 // callers have two figures, definitions take two, and entries and keys hold them among others, so that each call would only make
@@ -63,13 +60,4 @@ pub(super) fn add_entries(places: &mut [i64; PLACES], entries: &Entries)
     for entry in entries.as_slice() {
         add_kind(places, &entry.kind);
     }
-}
-
-// Whether no balance is larger in size than the largest.
-pub(super) fn all_within(places: &[i64]) -> bool
-    ensures { result ≡ all_within places.now }
-{
-    places
-        .iter()
-        .all(|balance| balance.unsigned_abs() <= LARGEST)
 }

@@ -1,5 +1,5 @@
 // Reductions.
-ghost use Rattle.std.specs.Prelude.{◌≡◌, ◌+◌, ◌≤◌, true, length, IfOk};
+ghost use Rattle.std.specs.Prelude.{◌≡◌, ◌+◌, ◌≤◌, true, [], length, OnOk, OnErr};
 ghost use Rattle.std.specs.List.{list_all};
 ghost use Rattle.matching.specs.Matching.{matches};
 ghost use Rattle.matching.specs.Drawing.{settled, draws_of};
@@ -7,7 +7,7 @@ ghost use Rattle.matching.specs.Drawn.{TooFew, Unsettled};
 ghost use Rattle.stock.specs.Kept.{WellKept};
 ghost use Rattle.stock.specs.Tables.{reduced, table_after_reduction};
 ghost use Rattle.stock.specs.Places.{TakesFirst};
-ghost use Rattle.stock.specs.Promises.{DrawsEarliestFirst, draw_in_range, RefusedExactly, AcceptedWithOneMatch, KeptIfRefused};
+ghost use Rattle.stock.specs.Promises.{map_ok, DrawsEarliestFirst, draw_in_range, RefusedExactly, AcceptedWithOneMatch, KeptIfRefused};
 
 use super::{LotTable, MOST_LOTS};
 use bounded::list::Bounded;
@@ -20,19 +20,32 @@ use refusal::Refusal;
 // What a reduction draws: from each open lot at most once.
 pub type Draws = Bounded<Draw, MOST_LOTS>;
 
+// An empty list of draws, to lend to reductions.
+pub fn no_draws() -> Draws
+    ensures { result ≡ [] }
+{
+    Bounded::new(Draw::default())
+}
+
 impl LotTable {
     // Draws units from the matching lots in the policy's order, each to its last unit before the next; or refuses and changes nothing.
+    // The draws go to the list that is lent, whatever was in it.
     // Each lot that it draws from is emptied but the last, so that draws and open lots together grow by at most one.
     #[tactic(auto, using(matching::proofs::Earliest::unsettled_from, matching::proofs::Earliest::unsettled_to))]
-    pub fn reduce<P: Policy>(&mut self, asked: &Reduction<P>) -> Result<Draws, Refusal>
-        ensures defined { (result, self.new) ≡ reduced (P.Policy.order asked.now.policy.now) asked.now.wanted asked.now.units self.old }
-        ensures draws_earliest_first { DrawsEarliestFirst (P.Policy.order asked.now.policy.now) asked.now.wanted asked.now.units self.old (result, self.new) }
-        ensures draws_in_range { IfOk result (λ ds. list_all draw_in_range ds ≡ true) }
-        ensures grows_by_one { IfOk result (λ ds. length ds + length self.new.lots ≤ length self.old.lots + 1) }
+    pub fn reduce<P: Policy>(
+        &mut self,
+        asked: &Reduction<P>,
+        draws: &mut Draws,
+    ) -> Result<(), Refusal>
+        ensures defined { (map_ok (λ _. draws.new) result, self.new) ≡ reduced (P.Policy.order asked.now.policy.now) asked.now.wanted asked.now.units self.old }
+        ensures draws_earliest_first { DrawsEarliestFirst (P.Policy.order asked.now.policy.now) asked.now.wanted asked.now.units self.old (map_ok (λ _. draws.new) result, self.new) }
+        ensures draws_in_range { OnOk result (list_all draw_in_range draws.new ≡ true) }
+        ensures grows_by_one { OnOk result (length draws.new + length self.new.lots ≤ length self.old.lots + 1) }
         ensures too_few_is_22 { RefusedExactly 22 (TooFew (matches asked.now.wanted) asked.now.units self.old.lots) result }
         ensures unsettled_is_23 { RefusedExactly 23 (Unsettled (P.Policy.order asked.now.policy.now) (matches asked.now.wanted) asked.now.units self.old.lots) result }
         ensures one_match_is_settled { AcceptedWithOneMatch asked.now.wanted asked.now.units self.old result }
         ensures refusal_changes_nothing { KeptIfRefused self.old (result, self.new) }
+        ensures refusal_keeps_draws { OnErr result (draws.new ≡ draws.old) }
     {
         if units_matching(self.lots(), &asked.wanted) < u128::from(asked.units) {
             return Err(Refusal::TooFewUnits);
@@ -40,7 +53,8 @@ impl LotTable {
         if !self.is_settled(asked) {
             return Err(Refusal::NotSettledByPolicy);
         }
-        Ok(self.draw(asked))
+        self.draw(asked, draws);
+        Ok(())
     }
 
     // Whether the policy settles, asked with the earliest of the matching lots.
@@ -60,20 +74,19 @@ impl LotTable {
     }
 
     // One lot after another gives, until nothing is left to ask or no wanted lot is left.
-    fn draw<P: Policy>(&mut self, asked: &Reduction<P>) -> Draws
-        ensures drawn { result ≡ draws_of (P.Policy.order asked.now.policy.now) asked.now.wanted asked.now.units self.old.lots }
+    fn draw<P: Policy>(&mut self, asked: &Reduction<P>, draws: &mut Draws)
+        ensures drawn { draws.new ≡ draws_of (P.Policy.order asked.now.policy.now) asked.now.wanted asked.now.units self.old.lots }
         ensures after { self.new ≡ table_after_reduction (P.Policy.order asked.now.policy.now) asked.now.wanted asked.now.units self.old }
-        ensures in_range { list_all draw_in_range result ≡ true }
-        ensures grows_by_one { length result + length self.new.lots ≤ length self.old.lots + 1 }
+        ensures in_range { list_all draw_in_range draws.new ≡ true }
+        ensures grows_by_one { length draws.new + length self.new.lots ≤ length self.old.lots + 1 }
     {
-        let mut draws = Bounded::new(Draw::default());
+        draws.clear();
         let mut left = asked.units;
         // no chain: its end is what is drawn, and not a list's
         while let Some(draw) = self.take(asked, left) {
             left -= draw.units;
             draws.push(draw).unwrap();
         }
-        draws
     }
 
     // The first of the wanted lots gives what is left to ask, or all that it has; emptied, it is gone.
