@@ -3,3 +3,4 @@ pub mod Stepping
 pub mod UnderWay
 pub mod Lent
 pub mod Allowing
+pub mod Few

@@ -1,7 +1,7 @@
 // A whole journal, booked on a new ledger.
 #![tactic(auto)]
 
-ghost use Rattle.std.specs.Prelude.{◌≡◌, ◌≤◌, length};
+ghost use Rattle.std.specs.Prelude.{◌≡◌, ◌+◌, ◌*◌, ◌≤◌, length};
 ghost use Rattle.lines.specs.Lines.{lines_of};
 ghost use Rattle.books.specs.Recording.{record_after_calls};
 ghost use Rattle.books.specs.States.{empty_ledger};
@@ -90,6 +90,19 @@ fn book_lines<P: Policy>(
     BookedJournal { ledger, outcomes }
 }
 
+// The most outcomes that a journal can have: two for each line, its own and that of a draft that it ends, and one for the end.
+pub fn most_outcomes(journal: &[u8]) -> usize
+    ensures { result ≡ 2 * length (lines_of journal.now) + 1 }
+{
+    let mut most = 1;
+    let mut rest = journal;
+    while let Some(cut) = split_line(rest) {
+        most += 2;
+        rest = cut.rest;
+    }
+    most
+}
+
 // Reads a journal and books it on a new ledger and in a record. The outcomes go to the places that are lent, as many as there are.
 pub fn book_journal<P: Policy>(
     policy: P,
@@ -101,6 +114,7 @@ pub fn book_journal<P: Policy>(
     ensures count { result.outcomes ≡ length (journal_read (P.Policy.order policy) (length book.old) journal.now).outcomes }
     ensures ledger { result.ledger ≡ record { policy = policy; state = books (P.Policy.order policy) (journal_read (P.Policy.order policy) (length book.old) journal.now) } }
     ensures book { book.new ≡ record_after_calls (P.Policy.order policy) empty_ledger (journal_read (P.Policy.order policy) (length book.old) journal.now).calls book.old }
+    ensures few { result.outcomes ≤ 2 * length (lines_of journal.now) + 1 }
     ensures accepted_exactly { AcceptedExactly (P.Policy.order policy) (length book.old) (lines_of journal.now) }
     ensures lawful { Lawful (P.Policy.order policy) (journal_read (P.Policy.order policy) (length book.old) journal.now).calls (answers_of (P.Policy.order policy) (journal_read (P.Policy.order policy) (length book.old) journal.now)) result.ledger.state }
     ensures recorded { RecordHolds (P.Policy.order policy) (journal_read (P.Policy.order policy) (length book.old) journal.now).calls (answers_of (P.Policy.order policy) (journal_read (P.Policy.order policy) (length book.old) journal.now)) book.old book.new }

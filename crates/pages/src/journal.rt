@@ -1,17 +1,13 @@
 // What lotbook prints of a journal that it books.
 use crate::booked::write_booked;
 use books::outcome::Outcome;
-use journals::{book_journal, booking_method};
+use journals::{book_journal, booking_method, most_outcomes};
 use lines::directive::Method;
-use lines::journal::MOST_BYTES;
 use lots::policy::{Fifo, Lifo, Policy, Strict, WholeLot};
 use std::alloc::Global;
 
 // The bytes of the record that a journal is booked in.
 pub const BOOK_LEN: usize = 49_152;
-
-// A line has at most two outcomes, its own and that of a draft that it ends; the end of the journal has one more.
-const MOST_OUTCOMES: usize = 2 * MOST_BYTES + 1;
 
 fn print_under<P: Policy + Drop>(
     heap: Global,
@@ -20,9 +16,9 @@ fn print_under<P: Policy + Drop>(
     book: &mut [u8],
     with_lots: bool,
 ) -> anyhow::Result<String> {
-    let mut places = vec![in heap; Outcome::Done; MOST_OUTCOMES]?;
+    let mut places = vec![in heap; Outcome::Done; most_outcomes(journal)]?;
     let booked = book_journal(policy, journal, places.as_mut_slice(), book);
-    let outcomes = places.get(..booked.outcomes).unwrap_or(&[]);
+    let outcomes = &places.as_slice()[..booked.outcomes];
     let mut out = String::new(heap);
     write_booked(&mut out, &booked.ledger, outcomes, book, with_lots)?;
     Ok(out)

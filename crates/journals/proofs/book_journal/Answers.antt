@@ -4,8 +4,12 @@ use Rattle.reader.specs.Readings.{journal_read}
 use Rattle.law.proofs.Runs.{books_stand}
 use Rattle.law.proofs.RunRecords.{record_stands}
 use Rattle.journals.proofs.Lent.{journal_within}
+use Rattle.journals.proofs.Few.{journal_few}
 use Rattle.journals.proofs.Allowing.{accepted_exactly}
 use Rattle.journals.proofs.book_journal.Goals as goal
+
+pub returns-clause-few : goal.returns-clause-few
+returns-clause-few g c = rw c.book_lines.ensures.count (journal_few (g.P.Policy.order c.args.policy) (length c.args.book.now) c.args.journal.now)
 
 pub returns-clause-accepted_exactly : goal.returns-clause-accepted_exactly
 returns-clause-accepted_exactly g c = accepted_exactly (g.P.Policy.order c.args.policy) (length c.args.book.now) (lines_of c.args.journal.now)
