@@ -15,10 +15,8 @@ pub struct Listed<T>(pub T);
 
 impl fmt::Display for Listed<&[u8]> {
     fn fmt<W: fmt::Write>(&self, f: &mut fmt::Formatter<W>) -> fmt::Result {
-        for b in self.0 {
-            f.write_char(char::from(*b))?;
-        }
-        Ok(())
+        // what is listed is ASCII, as all that a line may hold
+        f.write_str(str::from_utf8(self.0).map_err(|_| fmt::Error)?)
     }
 }
 

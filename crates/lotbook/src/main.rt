@@ -6,7 +6,7 @@ mod options;
 use lines::journal::MOST_BYTES;
 use options::Options;
 use pages::journal::{BOOK_LEN, print_journal};
-use std::io::Read;
+use std::io::{Read, Write};
 use std::process::ExitCode;
 use std::{env, fs};
 
@@ -17,7 +17,8 @@ fn book(rt: &HostRuntime, journal: &[u8], options: &Options) -> anyhow::Result<(
     if let Some(file) = &options.record {
         fs::write(rt, file.as_str(), book.as_slice())?;
     }
-    rt.print(out.as_str())?;
+    // whole, not line by line
+    rt.stdout().write_all(out.as_str().as_bytes())?;
     Ok(())
 }
 
