@@ -1,6 +1,8 @@
 // How programs print amounts, dates and lines.
 #![tactic(auto)]
 
+ghost use Rattle.std.specs.Prelude.{Some};
+
 use fields::field::Field;
 use lines::directive::{Braces, Cost, Directive, Method, Posting, Units};
 use std::fmt;
@@ -14,6 +16,8 @@ use values::flag::Flag;
 pub struct Listed<T>(pub T);
 
 impl fmt::Display for Listed<&[u8]> {
+    ghost output = { λ l. Some l.0.now };
+
     fn fmt<W: fmt::Write>(&self, f: &mut fmt::Formatter<W>) -> fmt::Result {
         // what is listed is ASCII, as all that a line may hold
         f.write_str(str::from_utf8(self.0).map_err(|_| fmt::Error)?)

@@ -1,16 +1,40 @@
 // Figures as they are printed. Crate `listing` prints what is known to be an amount or a date: holdings, and what the bytes of a record say,
 // are not.
+ghost use Rattle.std.specs.Prelude.{◌≡◌, ◌≤◌, Some};
+ghost use Rattle.pages.specs.Texts.{digit, hundredths_text, day_text};
+ghost use Rattle.std.specs.Fmt.{WritesOnOk};
+
 use std::fmt;
+
+// The digit of a number that counts a unit of 1, 10, 100 and so on.
+fn digit(unit: u64, n: u64) -> u8
+    requires { 1 ≤ unit }
+    ensures { result ≡ digit unit n }
+{
+    b'0' + (n / unit % 10) as u8
+}
+
+// What is written is ASCII.
+fn write_bytes<W: fmt::Write>(f: &mut fmt::Formatter<W>, bytes: &[u8]) -> fmt::Result
+    ensures writes { WritesOnOk W.Write.write_str_gives f.old result bytes.now f.new }
+{
+    f.write_str(str::from_utf8(bytes).map_err(|_| fmt::Error)?)
+}
 
 // With two decimals.
 #[derive(Clone, Copy)]
 pub struct Hundredths(pub i64);
 
 impl fmt::Display for Hundredths {
+    ghost output = { λ h. Some (hundredths_text h.0) };
+
     fn fmt<W: fmt::Write>(&self, f: &mut fmt::Formatter<W>) -> fmt::Result {
-        let sign = if self.0 < 0 { "-" } else { "" };
         let size = self.0.unsigned_abs();
-        write!(f, "{sign}{}.{:02}", size / 100, size % 100)
+        if self.0 < 0 {
+            f.write_str("-")?;
+        }
+        write!(f, "{}", size / 100)?;
+        write_bytes(f, &[b'.', digit(10, size), digit(1, size)])
     }
 }
 
@@ -19,13 +43,24 @@ impl fmt::Display for Hundredths {
 pub struct Day(pub u32);
 
 impl fmt::Display for Day {
+    ghost output = { λ d. Some (day_text d.0) };
+
     fn fmt<W: fmt::Write>(&self, f: &mut fmt::Formatter<W>) -> fmt::Result {
-        write!(
+        let n = u64::from(self.0);
+        write_bytes(
             f,
-            "{:04}-{:02}-{:02}",
-            self.0 / 10_000,
-            self.0 / 100 % 100,
-            self.0 % 100
+            &[
+                digit(10_000_000, n),
+                digit(1_000_000, n),
+                digit(100_000, n),
+                digit(10_000, n),
+                b'-',
+                digit(1000, n),
+                digit(100, n),
+                b'-',
+                digit(10, n),
+                digit(1, n),
+            ],
         )
     }
 }

@@ -1,9 +1,9 @@
 // Why a call is refused: the closed list of refusals, each with its number and its layer.
 #![tactic(auto)]
 
-ghost use Rattle.std.specs.Prelude.{◌≡◌};
+ghost use Rattle.std.specs.Prelude.{◌≡◌, Some};
 ghost use Rattle.refusal.specs.Table.{number_of, layer_of, name_of, Alone};
-ghost use Rattle.refusal.specs.Faults.{fault_at};
+ghost use Rattle.refusal.specs.Faults.{fault_at, fault_text};
 
 use std::fmt;
 
@@ -126,6 +126,8 @@ impl Layer {
 }
 
 impl fmt::Display for Layer {
+    ghost output = { λ l. Some (name_of l) };
+
     fn fmt<W: fmt::Write>(&self, f: &mut fmt::Formatter<W>) -> fmt::Result {
         f.write_str(self.name())
     }
@@ -133,6 +135,8 @@ impl fmt::Display for Layer {
 
 // A refusal as it is reported.
 impl fmt::Display for Fault {
+    ghost output = { λ f. Some (fault_text f) };
+
     fn fmt<W: fmt::Write>(&self, f: &mut fmt::Formatter<W>) -> fmt::Result {
         write!(
             f,
