@@ -1,5 +1,5 @@
 // What can be asked of a ledger. Questions change nothing and never show a draft.
-ghost use Rattle.std.specs.Prelude.{◌≡◌, not};
+ghost use Rattle.std.specs.Prelude.{◌≡◌, ◌≤◌, length, not};
 ghost use Rattle.books.specs.Conditions.{nothing_there};
 ghost use Rattle.books.specs.Refusals.{first_fault_met};
 ghost use Rattle.books.specs.Questions.{answer_unless, question_tests, holding_of, plain_balance_of, counts_of, lot_of};
@@ -32,14 +32,16 @@ impl<P: Policy> Ledger<P> {
 
     // The commodities as declared: number n is at place n - 1.
     pub fn commodities(&self) -> &[Name]
-        ensures { result.now ≡ self.now.state.names.commodities }
+        ensures listed { result.now ≡ self.now.state.names.commodities }
+        ensures few { length result.now ≤ 16 }
     {
         self.chart.commodity_list()
     }
 
     // The accounts as opened, closed ones among them: number n is at place n - 1.
     pub fn accounts(&self) -> &[Account]
-        ensures { result.now ≡ self.now.state.names.accounts }
+        ensures listed { result.now ≡ self.now.state.names.accounts }
+        ensures few { length result.now ≤ 64 }
     {
         self.chart.account_list()
     }
@@ -70,6 +72,13 @@ impl<P: Policy> Ledger<P> {
             rows: self.rows,
             next: self.holdings.lots().next_serial(),
         }
+    }
+
+    // The open lots in the order of their serials.
+    pub fn lots(&self) -> &[LotRow]
+        ensures { result.now ≡ self.now.state.books.table.lots }
+    {
+        self.holdings.lots().lots()
     }
 
     // The open lot that bears a serial.

@@ -1,7 +1,7 @@
 // The rows of a record, read from its bytes at the offsets of docs/RECORD.md. A ledger never reads a record: that is for its host.
 ghost use Rattle.std.specs.Prelude.{◌≡◌, ◌+◌, ◌≤◌, length, take, drop};
-ghost use Rattle.pages.specs.Rows.{rows_in};
-ghost use Rattle.record.specs.Promises.{number_at, signed_at};
+ghost use Rattle.pages.specs.Pages.{flag_sign};
+ghost use Rattle.pages.specs.Rows.{rows_in, row_read};
 
 const HEADER_LEN: usize = 24;
 
@@ -51,10 +51,7 @@ pub fn rows_of(book: &[u8]) -> &[[u8; ROW_LEN]]
 }
 
 fn read_lot(row: &[u8; ROW_LEN]) -> LotRead
-    ensures cost { result.cost ≡ number_at row.now 20 4 }
-    ensures lot_date { result.acquired ≡ number_at row.now 24 4 }
-    ensures serial { result.serial ≡ number_at row.now 28 4 }
-    ensures cost_commodity { result.currency ≡ number_at row.now 32 1 }
+    ensures { result ≡ (row_read row.now).lot }
 {
     LotRead {
         cost: u32::from_le_bytes(four_at(row, 20)),
@@ -64,20 +61,9 @@ fn read_lot(row: &[u8; ROW_LEN]) -> LotRead
     }
 }
 
-// Each field is the number in its bytes.
+// A row as a value.
 pub fn read(row: &[u8; ROW_LEN]) -> RowRead
-    ensures line { result.line ≡ number_at row.now 0 4 }
-    ensures transaction { result.transaction ≡ number_at row.now 4 4 }
-    ensures date { result.date ≡ number_at row.now 8 4 }
-    ensures account { result.account ≡ number_at row.now 12 2 }
-    ensures commodity { result.commodity ≡ number_at row.now 14 1 }
-    ensures kind { result.kind ≡ number_at row.now 15 1 }
-    ensures units { result.units ≡ signed_at row.now 16 }
-    ensures cost { result.lot.cost ≡ number_at row.now 20 4 }
-    ensures lot_date { result.lot.acquired ≡ number_at row.now 24 4 }
-    ensures serial { result.lot.serial ≡ number_at row.now 28 4 }
-    ensures cost_commodity { result.lot.currency ≡ number_at row.now 32 1 }
-    ensures flag { result.flag ≡ number_at row.now 33 1 }
+    ensures { result ≡ row_read row.now }
 {
     RowRead {
         line: u32::from_le_bytes(four_at(row, 0)),
@@ -94,7 +80,9 @@ pub fn read(row: &[u8; ROW_LEN]) -> RowRead
 
 impl RowRead {
     // As journals write it.
-    pub fn flag_sign(&self) -> char {
+    pub fn flag_sign(&self) -> char
+        ensures { result ≡ flag_sign self.now.flag }
+    {
         if self.flag == 0 { '*' } else { '!' }
     }
 }
