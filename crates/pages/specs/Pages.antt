@@ -11,6 +11,10 @@ use Rattle.books.specs.declared.outcome.Outcome.{Outcome}
 use Rattle.books.specs.declared.outcome.Outcome.TheVariants.{Refused}
 use Rattle.books.specs.Questions.{holding_of}
 use Rattle.books.specs.States.{Names, State}
+use Rattle.lots.specs.Orders.{Order, strict, fifo, lifo, whole_lot}
+use Rattle.lines.specs.declared.directive.Method.{Method}
+use Rattle.lines.specs.declared.directive.Method.TheVariants.{Strict, Fifo, Lifo}
+use Rattle.reader.specs.Readings.{books, journal_read}
 use Rattle.pages.specs.declared.rows.RowRead.{RowRead}
 use Rattle.pages.specs.Rows.{rows_in, row_read}
 use Rattle.pages.specs.Texts.{hundredths_text, day_text}
@@ -99,3 +103,14 @@ lots_part s with_lots = cond with_lots (codes "lots\n" ∷ lot_lines s.names s.b
 unfoldable pub page_text : State → List Outcome → List ℕ → Bool → List ℕ
 page_text s outcomes book with_lots =
     concat (refusal_lines outcomes ∷ codes "register\n" ∷ row_lines s.names (rows_in book) ∷ codes "balances\n" ∷ holding_lines s 1 s.names.accounts ∷ lots_part s with_lots)
+
+-- the page of a journal, booked in a record of so many bytes; the record is as booking left it
+abbrev pub journal_page : Order → ℕ → List ℕ → List ℕ → Bool → List ℕ
+journal_page o lent journal book with_lots =
+    page_text (books o (journal_read o lent journal)) (journal_read o lent journal).outcomes book with_lots
+
+-- the shop's policy: whole-lot over the journal's booking method
+abbrev pub shop_order : Method → Order
+shop_order Strict = whole_lot strict
+shop_order Fifo = whole_lot fifo
+shop_order Lifo = whole_lot lifo

@@ -1,4 +1,13 @@
 // What lotbook prints of a journal that it books.
+ghost use Rattle.std.specs.Prelude.{◌≡◌, length, IfOk, OnOk};
+ghost use Rattle.std.specs.String.{string_bytes};
+ghost use Rattle.books.specs.Recording.{record_after_calls};
+ghost use Rattle.books.specs.States.{empty_ledger};
+ghost use Rattle.journals.specs.Methods.{method_of};
+ghost use Rattle.lines.specs.Lines.{lines_of};
+ghost use Rattle.pages.specs.Pages.{journal_page, shop_order};
+ghost use Rattle.reader.specs.Readings.{journal_read};
+
 use crate::booked::write_booked;
 use books::outcome::Outcome;
 use journals::{book_journal, booking_method, most_outcomes};
@@ -15,10 +24,14 @@ fn print_under<P: Policy + Drop>(
     journal: &[u8],
     book: &mut [u8],
     with_lots: bool,
-) -> anyhow::Result<String> {
-    let mut places = vec![in heap; Outcome::Done; most_outcomes(journal)]?;
-    let booked = book_journal(policy, journal, places.as_mut_slice(), book);
-    let outcomes = &places.as_slice()[..booked.outcomes];
+) -> anyhow::Result<String>
+    ensures page { IfOk result (λ out. string_bytes out ≡ journal_page (P.Policy.order policy) (length book.old) journal.now book.new with_lots) }
+    ensures book { OnOk result (book.new ≡ record_after_calls (P.Policy.order policy) empty_ledger (journal_read (P.Policy.order policy) (length book.old) journal.now).calls book.old) }
+{
+    let mut list = vec![in heap; Outcome::Done; most_outcomes(journal)]?;
+    let places = list.as_mut_slice();
+    let booked = book_journal(policy, journal, places, book);
+    let outcomes = &places[..booked.outcomes];
     let mut out = String::new(heap);
     write_booked(&mut out, &booked.ledger, outcomes, book, with_lots)?;
     Ok(out)
@@ -30,7 +43,10 @@ pub fn print_journal(
     journal: &[u8],
     book: &mut [u8],
     with_lots: bool,
-) -> anyhow::Result<String> {
+) -> anyhow::Result<String>
+    ensures page { IfOk result (λ out. string_bytes out ≡ journal_page (shop_order (method_of (lines_of journal.now))) (length book.old) journal.now book.new with_lots) }
+    ensures book { OnOk result (book.new ≡ record_after_calls (shop_order (method_of (lines_of journal.now))) empty_ledger (journal_read (shop_order (method_of (lines_of journal.now))) (length book.old) journal.now).calls book.old) }
+{
     match booking_method(journal) {
         Method::Strict => print_under(heap, WholeLot { below: Strict }, journal, book, with_lots),
         Method::Fifo => print_under(heap, WholeLot { below: Fifo }, journal, book, with_lots),
