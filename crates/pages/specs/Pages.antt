@@ -3,7 +3,7 @@ use Rattle.std.specs.Prelude.{ℕ, ◌+◌, ◌-◌, Bool, false, cond, List, []
 use Rattle.std.specs.List.{concat}
 use Rattle.std.specs.Fmt.{decimal}
 use Rattle.std.specs.Result.{result_unwrap_or}
-use Rattle.refusal.specs.Faults.{fault_text}
+use Rattle.refusal.specs.Printed.{fault_text}
 use Rattle.lots.specs.declared.rows.LotRow.{LotRow}
 use Rattle.booking.specs.Weighing.{is_zero}
 use Rattle.books.specs.declared.account.Account.{Account}

@@ -1,9 +1,9 @@
 // Why a call is refused: the closed list of refusals, each with its number and its layer.
 #![tactic(auto)]
 
-ghost use Rattle.std.specs.Prelude.{◌≡◌, Some};
+ghost use Rattle.std.specs.Prelude.{◌≡◌};
 ghost use Rattle.refusal.specs.Table.{number_of, layer_of, name_of, Alone};
-ghost use Rattle.refusal.specs.Faults.{fault_at, fault_text};
+ghost use Rattle.refusal.specs.Faults.{fault_at};
 
 use std::fmt;
 
@@ -126,6 +126,9 @@ impl Layer {
 }
 
 impl fmt::Display for Layer {
+    ghost use Rattle.std.specs.Prelude.{Some};
+    ghost use Rattle.refusal.specs.Table.{name_of};
+
     ghost output = { λ l. Some (name_of l) };
 
     fn fmt<W: fmt::Write>(&self, f: &mut fmt::Formatter<W>) -> fmt::Result {
@@ -135,6 +138,9 @@ impl fmt::Display for Layer {
 
 // A refusal as it is reported.
 impl fmt::Display for Fault {
+    ghost use Rattle.std.specs.Prelude.{Some};
+    ghost use Rattle.refusal.specs.Printed.{fault_text};
+
     ghost output = { λ f. Some (fault_text f) };
 
     fn fmt<W: fmt::Write>(&self, f: &mut fmt::Formatter<W>) -> fmt::Result {
