@@ -63,6 +63,7 @@ impl<T: Copy, const N: usize> Bounded<T, N> {
     }
 
     // Writes over the item at a place; past the end there is none.
+    #[tactic(auto, using(crate::proofs::Lists::take_set))]
     pub fn put(&mut self, place: usize, item: T)
         ensures { self.new ≡ slice_set self.old place item }
     {
@@ -72,6 +73,7 @@ impl<T: Copy, const N: usize> Bounded<T, N> {
     }
 
     // Takes the item at a place out; those behind it close up. Past the end there is none.
+    #[tactic(auto, using(crate::proofs::Lists::take_closed_up))]
     pub fn remove(&mut self, place: usize)
         ensures { self.new ≡ remove self.old place }
     {
