@@ -66,6 +66,7 @@ pub struct Fault {
 
 impl Refusal {
     // The number that a user sees.
+    #[tactic(auto, using(crate::proofs::Numbers::alone))]
     pub fn number(self) -> u8
         ensures value { result ≡ number_of self }
         ensures alone { Alone self }
