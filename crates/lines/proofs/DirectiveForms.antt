@@ -23,6 +23,7 @@ use Rattle.lines.specs.declared.fault.LineFault.{LineFault}
 use Rattle.lines.specs.declared.fault.LineFault.TheVariants as fault
 use Rattle.lines.proofs.Fronts.{start_is, next_only}
 use Rattle.lines.proofs.Steps.{err_ok, from_and_then, from_date, to_date, no_date, found, front_only}
+use Rattle.lines.proofs.Keywords.{by_words}
 use Rattle.lines.proofs.Dated.{commodity_sound, commodity_complete, open_sound, open_complete, close_sound, close_complete, balance_sound, balance_complete}
 use Rattle.lines.proofs.Texts.{transaction_sound, transaction_complete, option_sound, option_complete}
 
@@ -105,7 +106,7 @@ module _ (line : List ℕ) where
 
   by_word_sound : (number d : ℕ) (s : Said) → is_ascii_digit (get_or line 0 0) ≡ true → WritesDate (field_at line 0).text d → by_word line d word_at behind ≡ Ok s → Form number line s
   by_word_sound number d s digit w e =
-      by_choice (is (codes "commodity")) (commodity_from line d behind) (from_open d) (Ok s) e
+      by_choice (is (codes "commodity")) (commodity_from line d behind) (from_open d) (Ok s) (by_words line d word_at.place behind word_at.text ∙ e)
       (λ y c.
       let f = commodity_sound line d behind s c in
       subst (Form number line) (sym f.1) (rest, q, here (codes "commodity") (omega arith) y, f.2))

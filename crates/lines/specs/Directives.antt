@@ -70,17 +70,7 @@ transaction_from line date flag from =
     and_then (λ f. f) (quoted_from line from) (λ q.
     and_then (λ f. f) (ends_at line q.end) (λ _. Ok (transaction date flag q.text)))
 
--- the word behind the date says which form the line has
-abbrev pub by_word : List ℕ → ℕ → Spot → ℕ → Result Said LineFault
-by_word line date word end =
-    cond (bytes_eq word.text (codes "commodity")) (commodity_from line date end)
-    (cond (bytes_eq word.text (codes "open")) (open_from line date end)
-    (cond (bytes_eq word.text (codes "close")) (close_from line date end)
-    (cond (bytes_eq word.text (codes "balance")) (balance_from line date end)
-    (cond (bytes_eq word.text (codes "*")) (transaction_from line date Complete end)
-    (cond (bytes_eq word.text (codes "!")) (transaction_from line date Incomplete end) (Err (fault.Form word.place)))))))
-
--- the same words, one keyword each
+-- the words that may stand behind a date
 abbrev pub keyword_named : List ℕ → Option Keyword
 keyword_named word =
     cond (bytes_eq word (codes "commodity")) (Some Commodity)
@@ -89,6 +79,18 @@ keyword_named word =
     (cond (bytes_eq word (codes "balance")) (Some Balance)
     (cond (bytes_eq word (codes "*")) (Some (Transaction Complete))
     (cond (bytes_eq word (codes "!")) (Some (Transaction Incomplete)) None)))))
+
+-- each says which form the line has; any other word, at its place, has no form
+abbrev pub by_keyword : List ℕ → ℕ → ℕ → ℕ → Option Keyword → Result Said LineFault
+by_keyword line date place end (Some Commodity) = commodity_from line date end
+by_keyword line date place end (Some Open) = open_from line date end
+by_keyword line date place end (Some Close) = close_from line date end
+by_keyword line date place end (Some Balance) = balance_from line date end
+by_keyword line date place end (Some (Transaction flag)) = transaction_from line date flag end
+by_keyword line date place end None = Err (fault.Form place)
+
+abbrev pub by_word : List ℕ → ℕ → Spot → ℕ → Result Said LineFault
+by_word line date word end = by_keyword line date word.place end (keyword_named word.text)
 
 unfoldable pub dated_from : List ℕ → ℕ → ℕ → Result Said LineFault
 dated_from line date from = by_word line date (field_at line from) (field_end line from)

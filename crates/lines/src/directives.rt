@@ -118,7 +118,7 @@ fn keyword_of(word: &[u8]) -> Option<Keyword>
 }
 
 // The word behind the date, and what belongs to it.
-#[tactic(auto, using(crate::proofs::Keywords::by_keyword_named), unfolding(crate::specs::Directives::dated_from))]
+#[tactic(auto, unfolding(crate::specs::Directives::dated_from))]
 fn read_by_word<'a>(mut line: Cursor<'a>, date: Date) -> Result<Directive<'a>, LineFault>
     ensures { map_ok said result ≡ dated_from line.entry.bytes.now date.number line.entry.at }
 {
