@@ -11,7 +11,7 @@ use Rattle.fields.specs.declared.fault.FieldFault.TheVariants.{Number}
 abbrev pub whole : List ℕ → Option ℕ
 whole bs = cond (nat_le 1 (length bs) && nat_le (length bs) 6) (decimal bs) None
 
--- nothing, or a point with 1 or 2 digits: hundredths
+-- what stands from the point on, in hundredths: nothing, or the point and 1 or 2 digits
 abbrev pub fraction : List ℕ → Option ℕ
 fraction bs = cond (length bs == 0) (Some 0) (cond (length bs == 2) (option_map (λ n. n * 10) (decimal (drop 1 bs))) (cond (length bs == 3) (decimal (drop 1 bs)) None))
 

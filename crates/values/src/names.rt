@@ -9,6 +9,7 @@ use byte_text::{ByteClass, after, all_of, byte_at, front, run_of};
 pub const LONGEST_NAME: usize = 48;
 
 // Whether a text is a commodity's name: 2 to 8 bytes A to Z or 0 to 9, the first a letter.
+#[tactic(auto, unfolding(crate::specs::Names::is_commodity_name))]
 pub fn is_commodity_name(text: &[u8]) -> bool
     ensures value { result ≡ is_commodity_name text.now }
     ensures exactly { Decides result (IsCommodityName text.now) }

@@ -5,7 +5,7 @@ use Rattle.values.specs.Names.{lies_under}
 use Rattle.values.proofs.Under.{under_decides}
 use Rattle.values.proofs.names.is_under.Goals as goal
 
-pub returns : goal.returns
-returns c =
+pub returns-clause-exactly : goal.returns-clause-exactly
+returns-clause-exactly c =
     let e : c.is_some_and.result ≡ lies_under c.args.account.now c.args.above.now = grind (arith, common_steps) in
-    record { value = e; exactly = Decides-at _ _ e (under_decides _ _) }
+    Decides-at _ _ e (under_decides _ _)
