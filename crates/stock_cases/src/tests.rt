@@ -286,7 +286,10 @@ fn names_and_codes(rt: HostRuntime) {
     assert_eq!(rt; (over_lifo.code(), over_lifo.name()), (11, "LIFO"));
     // 96 is 64 and 32, so the bit of value 8 is new to it
     assert_eq!(rt; WholeLot { below: Dearest }.code(), 104);
-    assert_eq!(rt; (<WholeLot<Lifo>>::NAME, <WholeLot<Dearest>>::NAME), ("LIFO", "DEAREST"));
+    assert_eq!(rt;
+        (<WholeLot<Lifo>>::NAME, <WholeLot<Dearest>>::NAME),
+        ("LIFO", "DEAREST")
+    );
 }
 
 #[test]
