@@ -41,12 +41,6 @@ with_blank own es Nothing = Err BlankCannotBeFilled
 with_blank own es (Only c sum) = filled_if own es c (amount_for sum)
 with_blank own es Several = Err BlankCannotBeFilled
 
--- a draft without one
-abbrev pub without_blank : List Entry → Unbalanced → Result (List Entry) Refusal
-without_blank es Nothing = Ok es
-without_blank es (Only c sum) = Err NotBalanced
-without_blank es Several = Err NotBalanced
-
 -- the first of 25 and 26 that a draft meets, or its entries with the blank filled
 abbrev pub balanced : List Posting → Option ℕ → List Entry → Result (List Entry) Refusal
 balanced ps own es = unless (first_met ((NotBalanced, not_balanced ps es) ∷ (BlankCannotBeFilled, blank_cannot_be_filled own es) ∷ [])) (complete es)

@@ -2,7 +2,7 @@
 ghost use Rattle.std.specs.Prelude.{◌≡◌, length, OnErr};
 ghost use Rattle.stock.specs.Promises.{map_ok};
 ghost use Rattle.booking.specs.Weighing.{has_blank};
-ghost use Rattle.balancing.specs.Summary.{amount_for, with_blank, without_blank, balanced, entries_after};
+ghost use Rattle.balancing.specs.Summary.{amount_for, with_blank, balanced, entries_after};
 
 use crate::unbalanced::{Unbalanced, unbalanced_in};
 use booking::entries::Entries;
