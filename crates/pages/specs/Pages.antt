@@ -96,13 +96,13 @@ lot_lines names [] = []
 lot_lines names (r ∷ rs) = lot_line names r ++ lot_lines names rs
 
 -- the open lots, if they are asked for
-abbrev pub lots_part : State → Bool → List (List ℕ)
-lots_part s with_lots = cond with_lots (codes "lots\n" ∷ lot_lines s.names s.books.table.lots ∷ []) []
+unfoldable pub lots_part : State → Bool → List ℕ
+lots_part s with_lots = cond with_lots (codes "lots\n" ++ lot_lines s.names s.books.table.lots) []
 
 -- the refusals as they were met, the rows of the record, the holdings, and the lots if they are asked for
 unfoldable pub page_text : State → List Outcome → List ℕ → Bool → List ℕ
 page_text s outcomes book with_lots =
-    concat (refusal_lines outcomes ∷ codes "register\n" ∷ row_lines s.names (rows_in book) ∷ codes "balances\n" ∷ holding_lines s 1 s.names.accounts ∷ lots_part s with_lots)
+    concat (refusal_lines outcomes ∷ codes "register\n" ∷ row_lines s.names (rows_in book) ∷ codes "balances\n" ∷ holding_lines s 1 s.names.accounts ∷ lots_part s with_lots ∷ [])
 
 -- the page of a journal, booked in a record of so many bytes; the record is as booking left it
 abbrev pub journal_page : Order → ℕ → List ℕ → List ℕ → Bool → List ℕ

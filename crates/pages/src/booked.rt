@@ -1,7 +1,7 @@
 // What lotbook prints of a booked journal: its refusals, the record's rows, the holdings, and the open lots.
 ghost use Rattle.std.specs.Prelude.{◌≡◌, ◌∷◌, [], ◌++◌, OnOk};
 ghost use Rattle.std.specs.String.{string_bytes};
-ghost use Rattle.pages.specs.Pages.{account_name, commodity_name, refusal_line, refusal_lines, units_text, serial_text, row_head, row_line, row_lines, held_line, holding_line, account_lines, holding_lines, lot_head, lot_end, lot_line, lot_lines, page_text};
+ghost use Rattle.pages.specs.Pages.{account_name, commodity_name, refusal_line, refusal_lines, units_text, serial_text, row_head, row_line, row_lines, held_line, holding_line, account_lines, holding_lines, lot_head, lot_end, lot_line, lot_lines, lots_part, page_text};
 ghost use Rattle.pages.specs.Rows.{rows_in};
 
 use crate::figures::{Day, Hundredths};
@@ -239,6 +239,22 @@ fn write_lots<P: Policy>(out: &mut String, ledger: &Ledger<P>) -> Result<(), All
     Ok(())
 }
 
+// The open lots, if they are asked for.
+#[tactic(auto, unfolding(crate::specs::Pages::lots_part))]
+fn write_lots_part<P: Policy>(
+    out: &mut String,
+    ledger: &Ledger<P>,
+    with_lots: bool,
+) -> Result<(), AllocError>
+    ensures { OnOk result (string_bytes out.new ≡ string_bytes out.old ++ lots_part ledger.now.state with_lots) }
+{
+    if !with_lots {
+        return Ok(());
+    }
+    writeln!(out, "lots")?;
+    write_lots(out, ledger)
+}
+
 // All that lotbook prints: of the outcomes the refusals, then the rows of the record, the holdings that are not 0, and if it is
 // asked for the open lots.
 pub fn write_booked<P: Policy>(
@@ -255,9 +271,5 @@ pub fn write_booked<P: Policy>(
     write_rows(out, ledger, book)?;
     writeln!(out, "balances")?;
     write_holdings(out, ledger)?;
-    if with_lots {
-        writeln!(out, "lots")?;
-        write_lots(out, ledger)?;
-    }
-    Ok(())
+    write_lots_part(out, ledger, with_lots)
 }
