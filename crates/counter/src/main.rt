@@ -9,7 +9,7 @@ use books::outcome::Outcome;
 use ledger::Ledger;
 use lots::policy::{Fifo, Lifo, Policy, WholeLot};
 use lots::rows::LotRow;
-use pages::figures::{Day, Hundredths};
+use listing::figures::{Day, Hundredths};
 use pages::rows::{read, rows_of};
 use rows::Printed;
 use runs::run;

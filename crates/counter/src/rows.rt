@@ -1,5 +1,5 @@
 // How the rows of a record are printed. The lot is printed where it is not all zeros.
-use pages::figures::{Day, Hundredths};
+use listing::figures::{Day, Hundredths};
 use pages::rows::{LotRead, RowRead};
 use std::fmt;
 

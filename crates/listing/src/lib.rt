@@ -1,8 +1,14 @@
-// How programs print amounts, dates and lines.
+// How programs print figures, names, and what a line says.
 #![tactic(auto)]
 
 ghost use Rattle.std.specs.Prelude.{Some};
+ghost use Rattle.lines.specs.Grammar.{flag_sign, method_name};
+ghost use Rattle.listing.specs.Figures.{hundredths_text, day_text};
+ghost use Rattle.listing.specs.Lines.{cost_text, braces_text, units_text, posting_text, directive_text};
 
+pub mod figures;
+
+use crate::figures::{Day, Hundredths};
 use fields::field::Field;
 use lines::directive::{Braces, Cost, Directive, Method, Posting, Units};
 use std::fmt;
@@ -26,35 +32,33 @@ impl fmt::Display for Listed<&[u8]> {
 
 // With two decimals.
 impl fmt::Display for Listed<Amount> {
+    ghost output = { λ l. Some (hundredths_text l.0.hundredths) };
+
     fn fmt<W: fmt::Write>(&self, f: &mut fmt::Formatter<W>) -> fmt::Result {
-        let hundredths = self.0.hundredths();
-        let sign = if hundredths < 0 { "-" } else { "" };
-        let size = hundredths.unsigned_abs();
-        write!(f, "{sign}{}.{:02}", size / 100, size % 100)
+        write!(f, "{}", Hundredths(i64::from(self.0.hundredths())))
     }
 }
 
 // As YYYY-MM-DD.
 impl fmt::Display for Listed<Date> {
+    ghost output = { λ l. Some (day_text l.0.number) };
+
     fn fmt<W: fmt::Write>(&self, f: &mut fmt::Formatter<W>) -> fmt::Result {
-        let number = self.0.number();
-        write!(
-            f,
-            "{:04}-{:02}-{:02}",
-            number / 10_000,
-            number / 100 % 100,
-            number % 100
-        )
+        write!(f, "{}", Day(self.0.number()))
     }
 }
 
 impl fmt::Display for Listed<Field<'_>> {
+    ghost output = { λ l. Some (l.0.text.now) };
+
     fn fmt<W: fmt::Write>(&self, f: &mut fmt::Formatter<W>) -> fmt::Result {
         write!(f, "{}", Listed(self.0.text))
     }
 }
 
 impl fmt::Display for Listed<Method> {
+    ghost output = { λ l. Some (method_name l.0) };
+
     fn fmt<W: fmt::Write>(&self, f: &mut fmt::Formatter<W>) -> fmt::Result {
         f.write_str(match self.0 {
             Method::Strict => "STRICT",
@@ -65,6 +69,8 @@ impl fmt::Display for Listed<Method> {
 }
 
 impl fmt::Display for Listed<Flag> {
+    ghost output = { λ l. Some (flag_sign l.0) };
+
     fn fmt<W: fmt::Write>(&self, f: &mut fmt::Formatter<W>) -> fmt::Result {
         f.write_char(match self.0 {
             Flag::Complete => '*',
@@ -74,6 +80,9 @@ impl fmt::Display for Listed<Flag> {
 }
 
 impl fmt::Display for Listed<Cost<'_>> {
+    ghost output = { λ l. Some (cost_text l.0) };
+
+    #[tactic(auto, unfolding(crate::specs::Lines::cost_text))]
     fn fmt<W: fmt::Write>(&self, f: &mut fmt::Formatter<W>) -> fmt::Result {
         let cost = self.0;
         write!(f, "{} {}", Listed(cost.amount), Listed(cost.commodity))
@@ -81,23 +90,22 @@ impl fmt::Display for Listed<Cost<'_>> {
 }
 
 impl fmt::Display for Listed<Braces<'_>> {
+    ghost output = { λ l. Some (braces_text l.0) };
+
     fn fmt<W: fmt::Write>(&self, f: &mut fmt::Formatter<W>) -> fmt::Result {
-        let braces = self.0;
-        write!(f, "{{")?;
-        if let Some(cost) = braces.cost {
-            write!(f, "{}", Listed(cost))?;
+        let Braces { cost, date } = self.0;
+        match (cost, date) {
+            (None, None) => f.write_str("{}"),
+            (Some(cost), None) => write!(f, "{{{}}}", Listed(cost)),
+            (None, Some(date)) => write!(f, "{{{}}}", Listed(date)),
+            (Some(cost), Some(date)) => write!(f, "{{{}, {}}}", Listed(cost), Listed(date)),
         }
-        if braces.cost.is_some() && braces.date.is_some() {
-            write!(f, ", ")?;
-        }
-        if let Some(date) = braces.date {
-            write!(f, "{}", Listed(date))?;
-        }
-        write!(f, "}}")
     }
 }
 
 impl fmt::Display for Listed<Units<'_>> {
+    ghost output = { λ l. Some (units_text l.0) };
+
     fn fmt<W: fmt::Write>(&self, f: &mut fmt::Formatter<W>) -> fmt::Result {
         let units = self.0;
         write!(f, "{} {}", Listed(units.amount), Listed(units.commodity))?;
@@ -109,6 +117,8 @@ impl fmt::Display for Listed<Units<'_>> {
 }
 
 impl fmt::Display for Listed<Posting<'_>> {
+    ghost output = { λ l. Some (posting_text l.0) };
+
     fn fmt<W: fmt::Write>(&self, f: &mut fmt::Formatter<W>) -> fmt::Result {
         let posting = self.0;
         write!(f, "posting {}", Listed(posting.account))?;
@@ -121,6 +131,8 @@ impl fmt::Display for Listed<Posting<'_>> {
 
 // What a line says: its kind and its fields.
 impl fmt::Display for Listed<Directive<'_>> {
+    ghost output = { λ l. Some (directive_text l.0) };
+
     fn fmt<W: fmt::Write>(&self, f: &mut fmt::Formatter<W>) -> fmt::Result {
         match self.0 {
             Directive::BookingMethod(method) => {

@@ -17,7 +17,7 @@ use Rattle.lines.specs.declared.directive.Method.TheVariants.{Strict, Fifo, Lifo
 use Rattle.reader.specs.Readings.{books, journal_read}
 use Rattle.pages.specs.declared.rows.RowRead.{RowRead}
 use Rattle.pages.specs.Rows.{rows_in, row_read}
-use Rattle.pages.specs.Texts.{hundredths_text, day_text}
+use Rattle.listing.specs.Figures.{hundredths_text, day_text}
 
 abbrev pub newline : List ℕ
 newline = 10 ∷ []

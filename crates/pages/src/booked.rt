@@ -4,11 +4,11 @@ ghost use Rattle.std.specs.String.{string_bytes};
 ghost use Rattle.pages.specs.Pages.{account_name, commodity_name, refusal_line, refusal_lines, units_text, serial_text, row_head, row_line, row_lines, held_line, holding_line, account_lines, holding_lines, lot_head, lot_end, lot_line, lot_lines, lots_part, page_text};
 ghost use Rattle.pages.specs.Rows.{rows_in};
 
-use crate::figures::{Day, Hundredths};
 use crate::rows::{RowRead, read, rows_of};
 use books::outcome::Outcome;
 use ledger::Ledger;
 use listing::Listed;
+use listing::figures::{Day, Hundredths};
 use lots::policy::Policy;
 use lots::rows::LotRow;
 use std::alloc::AllocError;

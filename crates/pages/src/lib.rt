@@ -2,6 +2,6 @@
 #![tactic(auto)]
 
 pub mod booked;
-pub mod figures;
+
 pub mod journal;
 pub mod rows;

@@ -1,7 +1,6 @@
-// Figures as they are printed. Crate `listing` prints what is known to be an amount or a date: holdings, and what the bytes of a record say,
-// are not.
+// Figures as they are printed, whatever they are: holdings, and what the bytes of a record say, are not known to be amounts and dates.
 ghost use Rattle.std.specs.Prelude.{◌≡◌, ◌≤◌, Some};
-ghost use Rattle.pages.specs.Texts.{digit, hundredths_text, day_text};
+ghost use Rattle.listing.specs.Figures.{digit, hundredths_text, day_text};
 ghost use Rattle.std.specs.Fmt.{WritesOnOk};
 
 use std::fmt;
