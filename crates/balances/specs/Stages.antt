@@ -2,11 +2,11 @@
 use Rattle.std.specs.Prelude.{ℕ, cond, List, ℤ, Ok, Err, Option, Result}
 use Rattle.refusal.specs.declared.Refusal.{Refusal}
 use Rattle.refusal.specs.declared.Refusal.TheVariants.{BalanceTooLarge}
+use Rattle.refusal.specs.Refusing.{first_met, unless}
 use Rattle.booking.specs.declared.posting.Posting.{Posting}
 use Rattle.booking.specs.declared.entry.Entry.{Entry}
 use Rattle.booking.specs.Weighing.{complete}
-use Rattle.booking.specs.Balances.{balances_after, all_within, first_met, weighing_tests}
-use Rattle.booking.specs.Stages.{unless}
+use Rattle.booking.specs.Balances.{balances_after, all_within, weighing_tests}
 
 -- 27: whether balances may become what entries make of them
 abbrev pub settled_balances : List ℤ → List Entry → Result (Unit {0}) Refusal

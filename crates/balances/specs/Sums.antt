@@ -3,6 +3,7 @@ use Rattle.std.specs.Prelude.{ℕ, ◌||◌, Bool, true, cond, List, [], ◌∷�
 use Rattle.booking.specs.declared.entry.Entry.{Entry}
 use Rattle.booking.specs.declared.entry.EntryKind.{EntryKind}
 use Rattle.booking.specs.declared.entry.EntryKind.TheVariants.{PlainAmount, Unfilled, Filled, Bought, Drew}
+use Rattle.booking.specs.Limits.{balance_count}
 use Rattle.booking.specs.Balances.{balance_place, largest_balance}
 
 -- what an entry of this kind adds to the balance at a place
@@ -19,7 +20,7 @@ sum_at place (e ∷ es) = amount_at place e.kind +ℤ sum_at place es
 
 -- the balance at a place stays within its bound after entries; a place past the last has none
 abbrev pub place_stays : List ℤ → List Entry → ℕ → Bool
-place_stays bs es place = nat_le 1024 place || nat_le (unsigned_abs (slice_index_or bs place (pos 0) +ℤ sum_at place es)) largest_balance
+place_stays bs es place = nat_le balance_count place || nat_le (unsigned_abs (slice_index_or bs place (pos 0) +ℤ sum_at place es)) largest_balance
 
 -- the balance that an entry of this kind adds to, if it adds to one
 abbrev pub kind_stays : List ℤ → List Entry → EntryKind → Bool

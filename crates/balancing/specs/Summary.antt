@@ -1,13 +1,14 @@
 -- Which commodities are out of balance, as far as it matters: none, one with its sum, or several.
 use Rattle.std.specs.Prelude.{ℕ, cond, ◌&&◌, List, [], ◌∷◌, ℤ, Some, None, Ok, Err, Option, Result}
 use Rattle.refusal.specs.declared.Refusal.{Refusal}
-use Rattle.refusal.specs.declared.Refusal.TheVariants.{NotBalanced, BlankCannotBeFilled}
+use Rattle.refusal.specs.declared.Refusal.TheVariants.{BlankCannotBeFilled}
+use Rattle.refusal.specs.Refusing.{first_met, unless}
+use Rattle.values.specs.Amounts.{is_amount}
 use Rattle.record.specs.Layout.{if_ok}
 use Rattle.booking.specs.declared.posting.Posting.{Posting}
 use Rattle.booking.specs.declared.entry.Entry.{Entry}
-use Rattle.booking.specs.Weighing.{is_zero, is_whole, is_amount, own_agrees, blank_amount, fill, complete, not_balanced, blank_cannot_be_filled}
-use Rattle.booking.specs.Balances.{first_met}
-use Rattle.booking.specs.Stages.{unless}
+use Rattle.booking.specs.Balances.{balancing_tests}
+use Rattle.booking.specs.Weighing.{is_zero, is_whole, own_agrees, blank_amount, fill, complete}
 use Rattle.balancing.specs.declared.unbalanced.Unbalanced.{Unbalanced}
 use Rattle.balancing.specs.declared.unbalanced.Unbalanced.TheVariants.{Nothing, Only, Several}
 
@@ -43,7 +44,7 @@ with_blank own es Several = Err BlankCannotBeFilled
 
 -- the first of 25 and 26 that a draft meets, or its entries with the blank filled
 abbrev pub balanced : List Posting → Option ℕ → List Entry → Result (List Entry) Refusal
-balanced ps own es = unless (first_met ((NotBalanced, not_balanced ps es) ∷ (BlankCannotBeFilled, blank_cannot_be_filled own es) ∷ [])) (complete es)
+balanced ps own es = unless (first_met (balancing_tests ps own es)) (complete es)
 
 -- the entries after it: refused, they stay as they are
 abbrev pub entries_after : List Posting → Option ℕ → List Entry → List Entry

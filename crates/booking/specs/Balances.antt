@@ -1,20 +1,21 @@
 -- Plain balances by account and commodity, and the tests of a weighed draft.
-use Rattle.std.specs.Prelude.{ℕ, ◌+◌, ◌-◌, ◌*◌, Bool, cond, not, List, [], ◌∷◌, replicate, ℤ, pos, ◌+ℤ◌, Some, None, Option, nat_le, slice_index_or, slice_set, unsigned_abs}
+use Rattle.std.specs.Prelude.{ℕ, ◌+◌, ◌-◌, ◌*◌, Bool, not, List, [], ◌∷◌, ◌++◌, replicate, ℤ, pos, ◌+ℤ◌, Option, nat_le, slice_index_or, slice_set, unsigned_abs}
 use Rattle.std.specs.List.{list_all}
 use Rattle.refusal.specs.declared.Refusal.{Refusal}
 use Rattle.refusal.specs.declared.Refusal.TheVariants.{NotBalanced, BlankCannotBeFilled, BalanceTooLarge}
+use Rattle.booking.specs.Limits.{most_commodities, balance_count}
 use Rattle.booking.specs.declared.posting.Posting.{Posting}
 use Rattle.booking.specs.declared.entry.Entry.{Entry}
 use Rattle.booking.specs.declared.entry.EntryKind.{EntryKind}
 use Rattle.booking.specs.declared.entry.EntryKind.TheVariants.{PlainAmount, Unfilled, Filled, Bought, Drew}
 use Rattle.booking.specs.Weighing.{not_balanced, blank_cannot_be_filled, complete}
 
--- 16 commodities for each of 64 accounts, both counted from 1: where the balance of an account in a commodity stands
+-- each account has a place for each commodity: where the balance of an account in a commodity stands
 abbrev pub balance_place : ℕ → ℕ → ℕ
-balance_place account commodity = 16 * (account - 1) + (commodity - 1)
+balance_place account commodity = most_commodities * (account - 1) + (commodity - 1)
 
 abbrev pub no_balances : List ℤ
-no_balances = replicate 1024 (pos 0)
+no_balances = replicate balance_count (pos 0)
 
 abbrev pub balance_in : List ℤ → ℕ → ℕ → ℤ
 balance_in bs account commodity = slice_index_or bs (balance_place account commodity) (pos 0)
@@ -47,15 +48,9 @@ all_within bs = list_all (λ z. nat_le (unsigned_abs z) largest_balance) bs
 abbrev pub balance_too_large : List ℤ → List Entry → Bool
 balance_too_large bs es = not (all_within (balances_after bs (complete es)))
 
--- the first refusal of a list whose test is met
-abbrev pub first_met : List (Refusal × Bool) → Option Refusal
-first_met [] = None
-first_met (t ∷ ts) = cond t.1 (Some t.0) (first_met ts)
+-- which of 25 and 26 a draft of these postings and entries can meet once it is booked, and which of 25 to 27
+abbrev pub balancing_tests : List Posting → Option ℕ → List Entry → List (Refusal × Bool)
+balancing_tests ps own es = (NotBalanced, not_balanced ps es) ∷ (BlankCannotBeFilled, blank_cannot_be_filled own es) ∷ []
 
--- what a draft of these postings and entries meets once it is booked, in the order of the list
 abbrev pub weighing_tests : List Posting → Option ℕ → List ℤ → List Entry → List (Refusal × Bool)
-weighing_tests ps own bs es =
-    (NotBalanced, not_balanced ps es)
-    ∷ (BlankCannotBeFilled, blank_cannot_be_filled own es)
-    ∷ (BalanceTooLarge, balance_too_large bs es)
-    ∷ []
+weighing_tests ps own bs es = balancing_tests ps own es ++ ((BalanceTooLarge, balance_too_large bs es) ∷ [])

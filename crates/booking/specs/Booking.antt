@@ -1,5 +1,6 @@
 -- A whole draft: its postings in order, each upon the lots that the one before left.
 use Rattle.std.specs.Prelude.{ℕ, List, [], ◌∷◌, ◌++◌, Some, None, Option}
+use Rattle.std.specs.Option.{option_or}
 use Rattle.refusal.specs.declared.Refusal.{Refusal}
 use Rattle.refusal.specs.declared.Fault.{Fault}
 use Rattle.refusal.specs.Faults.{fault_at}
@@ -24,11 +25,7 @@ abbrev pub at_line : ℕ → Option Refusal → Option Fault
 at_line line None = None
 at_line line (Some refusal) = Some (fault_at line refusal)
 
-abbrev pub or_else : {X : Type 0} → Option X → Option X → Option X
-or_else (Some x) other = Some x
-or_else None other = other
-
 -- the first posting that meets one of 21 to 24 decides, and its line is reported
 abbrev pub first_fault : Order → ℕ → Table → List Posting → Option Fault
 first_fault o day t [] = None
-first_fault o day t (p ∷ ps) = or_else (at_line p.line (posting_refusal o day t p)) (first_fault o day (table_after_posting o day t p) ps)
+first_fault o day t (p ∷ ps) = option_or (at_line p.line (posting_refusal o day t p)) (first_fault o day (table_after_posting o day t p) ps)

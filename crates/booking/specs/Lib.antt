@@ -1,3 +1,4 @@
+pub mod Limits
 pub mod Postings
 pub mod Booking
 pub mod Weighing

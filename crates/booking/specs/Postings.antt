@@ -1,14 +1,15 @@
 -- What a posting does in a transaction of a day, upon the lots before it. All of it is total and knows no refusals;
 -- which of 21 to 24 a posting meets stands beside it.
-use Rattle.std.specs.Prelude.{ℕ, List, [], ◌∷◌, map, Some, None, Option}
+use Rattle.std.specs.Prelude.{ℕ, Bool, List, [], ◌∷◌, map, Some, None, Option}
 use Rattle.refusal.specs.declared.Refusal.{Refusal}
+use Rattle.refusal.specs.Refusing.{first_met}
 use Rattle.lots.specs.declared.rows.Cost.{Cost}
 use Rattle.lots.specs.declared.rows.Key.{Key}
 use Rattle.lots.specs.Orders.{Order}
 use Rattle.matching.specs.declared.wanted.Wanted.{Wanted}
 use Rattle.matching.specs.declared.wanted.Draw.{Draw}
 use Rattle.matching.specs.Drawing.{draws_of}
-use Rattle.stock.specs.Tables.{Table, serial_for, purchase_refusal, table_after_purchase, reduction_refusal, table_after_reduction}
+use Rattle.stock.specs.Tables.{Table, serial_for, purchase_tests, table_after_purchase, reduction_tests, table_after_reduction}
 use Rattle.booking.specs.declared.posting.Posting.{Posting}
 use Rattle.booking.specs.declared.posting.PostingKind.{PostingKind}
 use Rattle.booking.specs.declared.posting.PostingKind.TheVariants.{Blank, Plain, Purchase, Reduction}
@@ -56,12 +57,16 @@ entries_of_kind o day line a t (Reduction units commodity cost date) = draw_entr
 abbrev pub entries_of_posting : Order → ℕ → Table → Posting → List Entry
 entries_of_posting o day t p = entries_of_kind o day p.line p.account t p.kind
 
--- which of 21 to 24 it meets, if any
+-- which of 21 to 24 it can meet upon these lots
+abbrev pub lots_tests : Order → ℕ → ℕ → Table → PostingKind → List (Refusal × Bool)
+lots_tests o day a t Blank = []
+lots_tests o day a t (Plain amount commodity) = []
+lots_tests o day a t (Purchase units commodity cost date) = purchase_tests (purchase_key day a commodity cost date) units t
+lots_tests o day a t (Reduction units commodity cost date) = reduction_tests o (wanted_lots a commodity cost date) units t
+
+-- which it meets, if any
 abbrev pub kind_refusal : Order → ℕ → ℕ → Table → PostingKind → Option Refusal
-kind_refusal o day a t Blank = None
-kind_refusal o day a t (Plain amount commodity) = None
-kind_refusal o day a t (Purchase units commodity cost date) = purchase_refusal (purchase_key day a commodity cost date) units t
-kind_refusal o day a t (Reduction units commodity cost date) = reduction_refusal o (wanted_lots a commodity cost date) units t
+kind_refusal o day a t kind = first_met (lots_tests o day a t kind)
 
 abbrev pub posting_refusal : Order → ℕ → Table → Posting → Option Refusal
 posting_refusal o day t p = kind_refusal o day p.account t p.kind

@@ -1,23 +1,20 @@
 -- What booking answers, posting by posting: the first refusal that is met, or the lots and the entries after it.
-use Rattle.std.specs.Prelude.{ℕ, ◌+◌, ◌≤◌, List, [], ◌∷◌, ◌++◌, length, Some, None, Ok, Err, Option, Result}
+use Rattle.std.specs.Prelude.{ℕ, ◌+◌, ◌≤◌, List, [], ◌∷◌, ◌++◌, length, Result}
 use Rattle.refusal.specs.declared.Refusal.{Refusal}
 use Rattle.refusal.specs.declared.Fault.{Fault}
+use Rattle.refusal.specs.Refusing.{unless}
 use Rattle.lots.specs.declared.rows.Key.{Key}
 use Rattle.lots.specs.Orders.{Order}
 use Rattle.matching.specs.declared.wanted.Wanted.{Wanted}
 use Rattle.matching.specs.Drawing.{draws_of}
 use Rattle.stock.specs.Tables.{Table, last_serial, serial_for, purchase_refusal, table_after_purchase, reduction_refusal, table_after_reduction}
+use Rattle.booking.specs.Limits.{most_entries}
 use Rattle.booking.specs.declared.posting.Posting.{Posting}
 use Rattle.booking.specs.declared.posting.PostingKind.{PostingKind}
 use Rattle.booking.specs.declared.entry.Entry.{Entry}
 use Rattle.booking.specs.declared.entry.EntryKind.TheVariants.{Bought}
 use Rattle.booking.specs.Postings.{entry, draw_entries, table_after_kind, entries_of_kind, kind_refusal, table_after_posting, entries_of_posting, posting_refusal}
 use Rattle.booking.specs.Booking.{at_line, table_after, entries_of, first_fault}
-
--- x, unless something refuses it
-abbrev pub unless : {X E : Type 0} → Option E → X → Result X E
-unless None x = Ok x
-unless (Some refusal) x = Err refusal
 
 abbrev pub book_purchase : ℕ → Key → ℕ → Table × List Entry → Result (Table × List Entry) Refusal
 book_purchase line k n b =
@@ -45,7 +42,7 @@ book_draft o day t ps = unless (first_fault o day t ps) (table_after o day t ps,
 
 -- room for the entries of one posting more, and for the serial of a lot that it opens
 abbrev pub HasRoom : Table × List Entry → Type 0
-HasRoom b = length b.1 + length b.0.lots ≤ 286
+HasRoom b = length b.1 + length b.0.lots + 2 ≤ most_entries
 
 abbrev pub HasSerials : Table × List Entry → Type 0
 HasSerials b = b.0.next + 1 ≤ last_serial

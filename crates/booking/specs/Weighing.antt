@@ -1,8 +1,10 @@
 -- What the entries of a draft weigh, in ten-thousandths of each commodity, and the blank that balances them.
-use Rattle.std.specs.Prelude.{ℕ, zero, suc, ◌/◌, ◌%◌, Bool, true, false, cond, not, ◌&&◌, ◌||◌, List, [], ◌∷◌, ℤ, pos, negsuc, neg_ℤ, Some, None, Option, ◌==◌, nat_le, unsigned_abs}
+use Rattle.std.specs.Prelude.{ℕ, zero, suc, ◌/◌, ◌%◌, Bool, true, false, cond, not, ◌&&◌, ◌||◌, List, [], ◌∷◌, ℤ, pos, negsuc, neg_ℤ, Some, None, Option, ◌==◌, unsigned_abs}
 use Rattle.std.specs.List.{list_any}
+use Rattle.values.specs.Amounts.{is_amount}
 use Rattle.matching.specs.Sums.{sum_of_ints}
 use Rattle.weights.specs.Weights.{plain_weight, purchase_weight, draw_weight, weight_in}
+use Rattle.booking.specs.Limits.{most_commodities}
 use Rattle.booking.specs.declared.posting.Posting.{Posting}
 use Rattle.booking.specs.declared.entry.Entry.{Entry}
 use Rattle.booking.specs.declared.entry.EntryKind.{EntryKind}
@@ -30,9 +32,9 @@ abbrev pub unbalanced : ℕ → (ℕ → ℤ) → List ℕ
 unbalanced zero sum = []
 unbalanced (suc n) sum = cond (is_zero (sum (suc n))) (unbalanced n sum) (suc n ∷ unbalanced n sum)
 
--- There are at most 16 commodities. It stays shut until it is unfolded, since written out it doubles with each commodity.
+-- of all that there can be; it stays shut until it is unfolded, since written out it doubles with each commodity.
 unfoldable pub unbalanced_in : List Entry → List ℕ
-unbalanced_in es = unbalanced 16 (weight_sum es)
+unbalanced_in es = unbalanced most_commodities (weight_sum es)
 
 abbrev pub is_empty : {X : Type 0} → List X → Bool
 is_empty [] = true
@@ -82,9 +84,6 @@ blank_amount (negsuc n) = pos (suc n / 100)
 
 abbrev pub is_whole : ℤ → Bool
 is_whole sum = unsigned_abs sum % 100 == 0
-
-abbrev pub is_amount : ℤ → Bool
-is_amount z = nat_le (unsigned_abs z) 99999999
 
 -- the commodity is the own one of an account, or it has none
 abbrev pub own_agrees : Option ℕ → ℕ → Bool

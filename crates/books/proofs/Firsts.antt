@@ -15,12 +15,12 @@ use Rattle.lots.specs.Orders.{Order}
 use Rattle.booking.specs.declared.posting.Posting.{Posting}
 use Rattle.booking.specs.declared.posting.PostingKind.{PostingKind}
 use Rattle.booking.specs.declared.posting.PostingKind.TheVariants.{Purchase, Reduction}
-use Rattle.booking.specs.Postings.{table_after_posting}
+use Rattle.booking.specs.Postings.{lots_tests, table_after_posting}
 use Rattle.booking.specs.declared.draft.Draft.{Draft}
 use Rattle.books.specs.States.{State}
-use Rattle.books.specs.Calls.{opening, posting, settling, BracesGiven, CostGiven}
+use Rattle.books.specs.Calls.{posting, settling, BracesGiven, CostGiven}
 use Rattle.books.specs.Conditions.{no_such_draft}
-use Rattle.books.specs.Refusals.{Test, tests_at, fault_of, first_fault_met, if_given, lots_tests, lots_tests_of_all, whole_draft_tests, draft_entries, draft_tests, amount_tests, tests, refusal}
+use Rattle.books.specs.Refusals.{Test, tests_at, fault_of, first_fault_met, if_given, lots_tests_of_all, whole_draft_tests, draft_entries, draft_tests, amount_tests, tests, refusal}
 use Rattle.books.specs.Steps.{answered, FirstMet, AnswersFirstMet, may_precede, InListOrder, TablesInListOrder}
 
 -- the first of these tests that is met, with what the answer is of it, or that none is
@@ -115,8 +115,6 @@ module _ (o : Order) (s : State) where
       parts (Some cost) (Some date) = search (by_test)
 
 pub tables_in_list_order : TablesInListOrder
-tables_in_list_order o s (opening source date name None) = search (by_test)
-tables_in_list_order o s (opening source date name (Some c)) = search (by_test)
 tables_in_list_order o s (posting slip source account None) = search (by_test)
 tables_in_list_order o s (posting slip source account (Some x)) = amount_in_order o s slip source account x.number x.commodity x.braces
 tables_in_list_order o s (settling slip lent) = draft_in_order o s lent (record { refusal = NoSuchDraft; line = 0; met = no_such_draft s slip }) refl s.draft

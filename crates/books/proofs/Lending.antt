@@ -9,9 +9,9 @@ use Rattle.record.proofs.Written.{rows_bytes_length}
 use Rattle.refusal.specs.Faults.{fault_at}
 use Rattle.refusal.specs.declared.Fault.{Fault}
 use Rattle.refusal.specs.declared.Refusal.TheVariants.{NoSuchDraft, RecordTooShort}
+use Rattle.refusal.specs.Refusing.{first_met}
 use Rattle.lots.specs.Orders.{Order}
 use Rattle.booking.specs.declared.draft.Draft.{Draft}
-use Rattle.booking.specs.Balances.{first_met}
 use Rattle.booking.specs.Booking.{at_line, first_fault}
 use Rattle.booking.specs.Rows.{row_of}
 use Rattle.booking.proofs.Filling.{length_complete}

@@ -1,5 +1,5 @@
 -- What a host may rely on: a slip that was just handed out is the draft's, and its draft can be torn.
-use Rattle.std.proofs.Common.{◌≡◌, ℕ, ◌+◌, true, false, List, is_some, Some, None, Option, refl, arith}
+use Rattle.std.proofs.Common.{◌≡◌, ℕ, false, List, Some, None, Option, refl, arith}
 use Rattle.std.proofs.lemmas.Bool.Decides.{nat_tests}
 use Rattle.std.proofs.lemmas.Grind.{common_steps}
 use Rattle.refusal.specs.declared.Fault.{Fault}

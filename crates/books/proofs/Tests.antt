@@ -5,13 +5,13 @@ use Rattle.std.proofs.lemmas.Bool.{cond_both, true≢false}
 use Rattle.refusal.specs.declared.Refusal.{Refusal}
 use Rattle.refusal.specs.declared.Fault.{Fault}
 use Rattle.refusal.specs.Table.{number_of}
-use Rattle.booking.specs.Booking.{at_line, or_else}
-use Rattle.booking.specs.Balances.{first_met}
+use Rattle.refusal.specs.Refusing.{first_met}
+use Rattle.booking.specs.Booking.{at_line}
 use Rattle.books.specs.Lookups.{number_or_0}
 use Rattle.books.specs.Refusals.{tests_at, first_fault_met}
 use Rattle.books.proofs.Nested.{first_at}
 use Rattle.std.proofs.lemmas.Option.{none-some}
-use Rattle.std.specs.Option.{option_map}
+use Rattle.std.specs.Option.{option_map, option_or}
 
 -- the number of a refusal, and of a fault, if there is one
 abbrev pub refusal_number : Option Refusal → Option ℕ
@@ -50,7 +50,7 @@ pub all_right : {X : Type 0} (P : X → Type 0) (xs ys : List X) → AllByRecurs
 all_right P [] ys all = all
 all_right P (x ∷ xs) ys all = all_right P xs ys all.1
 
-pub both_none : (x y : Option Fault) → or_else x y ≡ None → (x ≡ None) × (y ≡ None)
+pub both_none : (x y : Option Fault) → option_or x y ≡ None → (x ≡ None) × (y ≡ None)
 both_none None y e = (refl, e)
 both_none (Some f) y e = absurd (none-some f (sym e))
 

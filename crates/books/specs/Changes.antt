@@ -16,7 +16,7 @@ use Rattle.books.specs.declared.outcome.Outcome.{Outcome}
 use Rattle.books.specs.declared.outcome.Outcome.TheVariants.{Declared, Opened, Begun, Settled, Done}
 use Rattle.books.specs.declared.account.Account.{Account}
 use Rattle.booking.specs.declared.draft.Draft.{Draft}
-use Rattle.books.specs.States.{Names, Books, State}
+use Rattle.books.specs.States.{Names, Books, State, next_number}
 use Rattle.books.specs.Calls.{Call, declaring, opening, asserting, closing, beginning, posting, settling, tearing, writing_header, CostGiven, BracesGiven, AmountGiven}
 use Rattle.books.specs.Lookups.{commodity_number, open_account, number_or_0, account_at}
 
@@ -43,8 +43,11 @@ abbrev pub posting_kind : Names → Option AmountGiven → PostingKind
 posting_kind k None = Blank
 posting_kind k (Some x) = kind_of_amount k x.number (number_or_0 (commodity_number k x.commodity)) x.braces
 
+abbrev pub posting_to : Names → ℕ → List ℕ → PostingKind → Posting
+posting_to k source account kind = record { line = source; account = number_or_0 (open_account k account); kind = kind }
+
 abbrev pub posting_of : Names → ℕ → List ℕ → Option AmountGiven → Posting
-posting_of k source account amount = record { line = source; account = number_or_0 (open_account k account); kind = posting_kind k amount }
+posting_of k source account amount = posting_to k source account (posting_kind k amount)
 
 -- Drafts.
 
@@ -66,11 +69,12 @@ settled_entries o t d = complete (entries_of o d.date t d.postings)
 abbrev pub with_commodity : Names → List ℕ → Names
 with_commodity k name = record { commodities = k.commodities ++ (name ∷ []); accounts = k.accounts }
 
+-- an account, its own commodity told by its number
+abbrev pub account_added : Names → List ℕ → Option ℕ → Names
+account_added k name own = record { commodities = k.commodities; accounts = k.accounts ++ (record { name = name; own = own; is_open = true } ∷ []) }
+
 abbrev pub with_account : Names → List ℕ → Option (List ℕ) → Names
-with_account k name own = record {
-  commodities = k.commodities;
-  accounts = k.accounts ++ (record { name = name; own = option_map (λ c. number_or_0 (commodity_number k c)) own; is_open = true } ∷ []);
-}
+with_account k name own = account_added k name (option_map (λ c. number_or_0 (commodity_number k c)) own)
 
 abbrev pub closed : Account → Account
 closed account = record { name = account.name; own = account.own; is_open = false }
@@ -87,21 +91,26 @@ with_names s k date rank = record { names = k; books = s.books; draft = s.draft;
 abbrev pub with_draft : State → Option Draft → State
 with_draft s d = record { names = s.names; books = s.books; draft = d; last_date = s.last_date; last_rank = s.last_rank; transactions = s.transactions; rows = s.rows }
 
-abbrev pub books_after_draft : Order → Books → Draft → Books
-books_after_draft o b d = record { balances = balances_after b.balances (settled_entries o b.table d); table = lots_after_draft o b.table d }
+-- with these lots, and balances to which entries were added
+abbrev pub books_after : Books → Table → List Entry → Books
+books_after b t es = record { balances = balances_after b.balances es; table = t }
 
--- settling counts a transaction and its rows, and moves the last accepted date and rank to the draft's date and 2
-abbrev pub after_settling : Order → State → Option Draft → State
-after_settling o s None = s
-after_settling o s (Some d) = record {
+-- A transaction of a date that left these lots and gave these entries ends the draft. It is counted, and so are its rows, and the last
+-- accepted date and rank become its date and 2.
+abbrev pub with_transaction : State → ℕ → Table → List Entry → State
+with_transaction s date t es = record {
   names = s.names;
-  books = books_after_draft o s.books d;
+  books = books_after s.books t es;
   draft = None;
-  last_date = d.date;
+  last_date = date;
   last_rank = 2;
   transactions = s.transactions + 1;
-  rows = s.rows + length (settled_entries o s.books.table d);
+  rows = s.rows + length es;
 }
+
+abbrev pub after_settling : Order → State → Option Draft → State
+after_settling o s None = s
+after_settling o s (Some d) = with_transaction s d.date (lots_after_draft o s.books.table d) (settled_entries o s.books.table d)
 
 -- what an accepted call leaves
 abbrev pub change : Order → State → Call → State
@@ -121,8 +130,8 @@ reply s (declaring source date name) = Declared (length s.names.commodities + 1)
 reply s (opening source date name own) = Opened (length s.names.accounts + 1)
 reply s (asserting source date account amount commodity) = Done
 reply s (closing source date account) = Done
-reply s (beginning source date flag) = Begun (s.transactions + 1)
+reply s (beginning source date flag) = Begun (next_number s)
 reply s (posting slip source account amount) = Done
-reply s (settling slip lent) = Settled (s.transactions + 1)
+reply s (settling slip lent) = Settled (next_number s)
 reply s (tearing slip) = Done
 reply s (writing_header lent) = Done

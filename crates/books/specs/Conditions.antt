@@ -1,14 +1,16 @@
 -- When each refusal is met, in the words of the list of refusals (docs/REFUSALS.md). The number stands before each.
-use Rattle.std.specs.Prelude.{ℕ, zero, suc, ◌+◌, Bool, true, false, not, ◌&&◌, ◌||◌, List, length, ℤ, pos, negsuc, ◌-ℤ◌, is_some, ◌==◌, nat_le, nat_lt}
+use Rattle.std.specs.Prelude.{ℕ, zero, suc, Bool, true, false, not, ◌&&◌, ◌||◌, List, length, ℤ, pos, negsuc, ◌-ℤ◌, is_some, ◌==◌, nat_le, nat_lt}
 use Rattle.std.specs.List.{list_any}
+use Rattle.values.specs.Amounts.{is_amount}
 use Rattle.values.specs.Calendar.{is_day}
 use Rattle.values.specs.Names.{is_commodity_name, is_account_name}
 use Rattle.record.specs.Layout.{first_free, most_rows}
+use Rattle.booking.specs.Limits.{most_commodities, most_accounts, most_postings}
 use Rattle.booking.specs.declared.posting.Posting.{Posting}
 use Rattle.booking.specs.declared.posting.PostingKind.{PostingKind}
 use Rattle.booking.specs.declared.posting.PostingKind.TheVariants.{Blank, Plain, Purchase, Reduction}
-use Rattle.booking.specs.Weighing.{is_zero, is_amount, own_agrees}
-use Rattle.books.specs.States.{Names, State}
+use Rattle.booking.specs.Weighing.{is_zero, own_agrees}
+use Rattle.books.specs.States.{Names, State, next_number}
 use Rattle.books.specs.Calls.{BracesGiven}
 use Rattle.books.specs.Lookups.{commodity_number, account_number, open_account, any_under, number_or_0, own_of, is_account, is_commodity}
 use Rattle.books.specs.Holdings.{holdings_under, is_empty_account}
@@ -17,9 +19,9 @@ use Rattle.books.specs.Holdings.{holdings_under, is_empty_account}
 abbrev pub draft_under_way : State → Bool
 draft_under_way s = is_some s.draft
 
--- 2: no draft is under way, or its number is not the slip's; that is the number of settled transactions plus one
+-- 2: no draft is under way, or its number is not the slip's
 abbrev pub no_such_draft : State → ℕ → Bool
-no_such_draft s slip = not (is_some s.draft && slip == s.transactions + 1)
+no_such_draft s slip = not (is_some s.draft && slip == next_number s)
 
 -- 3: a question names an account never opened, a commodity never declared
 abbrev pub nothing_there : Names → ℕ → ℕ → Bool
@@ -70,13 +72,13 @@ not_open k name = not (is_some (open_account k name))
 abbrev pub none_under : Names → List ℕ → Bool
 none_under k name = not (any_under k name)
 
--- 17: the amount is in another commodity than the account's own one
-abbrev pub not_the_own_commodity : Names → List ℕ → List ℕ → Bool
-not_the_own_commodity k account commodity = not (own_agrees (own_of k (open_account k account)) (number_or_0 (commodity_number k commodity)))
+-- 17: the amount is in another commodity, told by its number, than the account's own one
+abbrev pub not_the_own_commodity : Names → List ℕ → ℕ → Bool
+not_the_own_commodity k account commodity = not (own_agrees (own_of k (open_account k account)) commodity)
 
--- 18: the draft holds 16 postings already
+-- 18: the draft holds the most postings already
 abbrev pub too_many_postings : List Posting → Bool
-too_many_postings ps = nat_le 16 (length ps)
+too_many_postings ps = nat_le most_postings (length ps)
 
 abbrev pub is_blank : PostingKind → Bool
 is_blank Blank = true
@@ -102,12 +104,12 @@ balance_differs s account z commodity = not (is_zero (holdings_under s.books acc
 abbrev pub not_empty : State → List ℕ → Bool
 not_empty s account = not (is_empty_account s.books (number_or_0 (open_account s.names account)))
 
--- 30: 16 commodities are declared, or 64 accounts were opened
+-- 30: the most commodities are declared, or the most accounts were opened
 abbrev pub commodities_full : Names → Bool
-commodities_full k = nat_le 16 (length k.commodities)
+commodities_full k = nat_le most_commodities (length k.commodities)
 
 abbrev pub accounts_full : Names → Bool
-accounts_full k = nat_le 64 (length k.accounts)
+accounts_full k = nat_le most_accounts (length k.accounts)
 
 -- 31: the record has no room for the header and so many rows
 abbrev pub record_too_short : ℕ → ℕ → Bool

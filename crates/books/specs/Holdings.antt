@@ -3,6 +3,7 @@ use Rattle.std.specs.Prelude.{ℕ, zero, suc, ◌+◌, Bool, true, cond, not, �
 use Rattle.std.specs.List.{list_any}
 use Rattle.values.specs.Names.{lies_under}
 use Rattle.matching.specs.Matching.{matches, units_matching}
+use Rattle.booking.specs.Limits.{most_commodities}
 use Rattle.booking.specs.Postings.{wanted_lots}
 use Rattle.booking.specs.Weighing.{is_zero}
 use Rattle.booking.specs.Balances.{balance_in}
@@ -36,4 +37,4 @@ has_lot b a = list_any (λ r. nat_eq r.key.account a) b.table.lots
 
 -- no lot, and no plain balance but 0
 abbrev pub is_empty_account : Books → ℕ → Bool
-is_empty_account b a = not (has_lot b a) && no_plain_balance b a 16
+is_empty_account b a = not (has_lot b a) && no_plain_balance b a most_commodities

@@ -1,8 +1,9 @@
 -- What can be asked of a ledger. Questions change nothing, and never show a draft.
-use Rattle.std.specs.Prelude.{ℕ, List, [], ◌∷◌, length, ℤ, Some, None, Ok, Err, Option, Result}
+use Rattle.std.specs.Prelude.{ℕ, List, [], ◌∷◌, length, ℤ, Result}
 use Rattle.std.specs.Option.{ok_or}
 use Rattle.refusal.specs.declared.Fault.{Fault}
 use Rattle.refusal.specs.declared.Refusal.TheVariants.{NothingThere}
+use Rattle.refusal.specs.Refusing.{unless}
 use Rattle.lots.specs.declared.rows.LotRow.{LotRow}
 use Rattle.stock.specs.Tables.{lot_of_serial}
 use Rattle.refusal.specs.Faults.{fault_at}
@@ -12,20 +13,15 @@ use Rattle.books.specs.Conditions.{nothing_there}
 use Rattle.books.specs.Holdings.{holding, plain_balance}
 use Rattle.books.specs.Refusals.{Test, tests_at, first_fault_met}
 
--- a question that meets no refusal is answered
-abbrev pub answer_unless : {X : Type 0} → Option Fault → X → Result X Fault
-answer_unless None x = Ok x
-answer_unless (Some fault) x = Err fault
-
 -- 3, with line 0
 abbrev pub question_tests : State → ℕ → ℕ → List Test
 question_tests s a c = tests_at 0 ((NothingThere, nothing_there s.names a c) ∷ [])
 
 abbrev pub holding_of : State → ℕ → ℕ → Result ℤ Fault
-holding_of s a c = answer_unless (first_fault_met (question_tests s a c)) (holding s.books a c)
+holding_of s a c = unless (first_fault_met (question_tests s a c)) (holding s.books a c)
 
 abbrev pub plain_balance_of : State → ℕ → ℕ → Result ℤ Fault
-plain_balance_of s a c = answer_unless (first_fault_met (question_tests s a c)) (plain_balance s.books a c)
+plain_balance_of s a c = unless (first_fault_met (question_tests s a c)) (plain_balance s.books a c)
 
 abbrev pub counts_of : State → Counts
 counts_of s = record {

@@ -1,5 +1,5 @@
 -- What a call leaves in the record that it is lent (docs/RECORD.md). All bytes that a call does not write stay.
-use Rattle.std.specs.Prelude.{ℕ, ◌+◌, List, [], ◌∷◌, Some, None, Option}
+use Rattle.std.specs.Prelude.{ℕ, List, [], ◌∷◌, Some, None, Option}
 use Rattle.refusal.specs.declared.Fault.{Fault}
 use Rattle.lots.specs.Orders.{Order}
 use Rattle.record.specs.declared.header.Header.{Header}
@@ -8,7 +8,7 @@ use Rattle.record.specs.Layout.{header_after, record_after}
 use Rattle.booking.specs.declared.entry.Transaction.{Transaction}
 use Rattle.booking.specs.Rows.{rows_of}
 use Rattle.booking.specs.declared.draft.Draft.{Draft}
-use Rattle.books.specs.States.{State}
+use Rattle.books.specs.States.{State, next_number}
 use Rattle.books.specs.Calls.{Call, declaring, opening, asserting, closing, beginning, posting, settling, tearing, writing_header}
 use Rattle.books.specs.Refusals.{refusal}
 use Rattle.books.specs.Changes.{settled_entries, after_settling}
@@ -24,7 +24,7 @@ transaction_of number d = record { number = number; date = d.date; flag = d.flag
 
 -- the rows that a draft becomes when it is settled
 abbrev pub draft_rows : Order → State → Draft → List Row
-draft_rows o s d = rows_of (transaction_of (s.transactions + 1) d) (settled_entries o s.books.table d)
+draft_rows o s d = rows_of (transaction_of (next_number s) d) (settled_entries o s.books.table d)
 
 abbrev pub record_after_settling : Order → State → Option Draft → List ℕ → List ℕ
 record_after_settling o s None book = book

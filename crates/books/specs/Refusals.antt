@@ -1,19 +1,14 @@
 -- The refusals that each call can meet, as tables: in the order in which they are tested, each with the line that it reports.
 -- The first that is met is what the call answers. Fields stand in the order of the journal's form.
-use Rattle.std.specs.Prelude.{ℕ, ◌+◌, Bool, cond, not, ◌&&◌, List, [], ◌∷◌, ◌++◌, map, length, Some, None, Option, nat_le, nat_lt}
+use Rattle.std.specs.Prelude.{ℕ, ◌+◌, Bool, false, cond, List, [], ◌∷◌, ◌++◌, map, length, ℤ, Some, None, Option}
 use Rattle.refusal.specs.declared.Refusal.{Refusal}
-use Rattle.refusal.specs.declared.Refusal.TheVariants.{DraftUnderWay, NoSuchDraft, BadDate, BadAccountName, BadCommodityName, BadNumber, BadBraces, GoesBack, CommodityDeclaredAlready, CommodityNotDeclared, AccountOpenedBefore, AccountNotOpen, NotTheOwnCommodity, TooManyPostings, SecondBlank, BracesWithoutUse, LotTooLarge, TooFewUnits, NotSettledByPolicy, TooManyLots, BalanceDiffers, AccountNotEmpty, BooksFull, RecordTooShort, TooManyRows}
+use Rattle.refusal.specs.declared.Refusal.TheVariants.{DraftUnderWay, NoSuchDraft, BadDate, BadAccountName, BadCommodityName, BadNumber, BadBraces, GoesBack, CommodityDeclaredAlready, CommodityNotDeclared, AccountOpenedBefore, AccountNotOpen, NotTheOwnCommodity, TooManyPostings, SecondBlank, BracesWithoutUse, BalanceDiffers, AccountNotEmpty, BooksFull, RecordTooShort, TooManyRows}
 use Rattle.refusal.specs.declared.Fault.{Fault}
-use Rattle.lots.specs.Rows.{most}
 use Rattle.lots.specs.Orders.{Order}
-use Rattle.matching.specs.Matching.{matches, units_matching}
-use Rattle.matching.specs.Drawing.{settled}
-use Rattle.stock.specs.Tables.{Table, is_open, units_of_key}
+use Rattle.stock.specs.Tables.{Table}
 use Rattle.booking.specs.declared.posting.Posting.{Posting}
-use Rattle.booking.specs.declared.posting.PostingKind.{PostingKind}
-use Rattle.booking.specs.declared.posting.PostingKind.TheVariants.{Blank, Plain, Purchase, Reduction}
 use Rattle.booking.specs.declared.entry.Entry.{Entry}
-use Rattle.booking.specs.Postings.{purchase_key, wanted_lots, table_after_posting}
+use Rattle.booking.specs.Postings.{lots_tests, table_after_posting}
 use Rattle.refusal.specs.Faults.{fault_at}
 use Rattle.booking.specs.Booking.{entries_of}
 use Rattle.booking.specs.Weighing.{blank_account}
@@ -21,7 +16,7 @@ use Rattle.booking.specs.Balances.{weighing_tests}
 use Rattle.booking.specs.declared.draft.Draft.{Draft}
 use Rattle.books.specs.States.{State}
 use Rattle.books.specs.Calls.{Call, declaring, opening, asserting, closing, beginning, posting, settling, tearing, writing_header, CostGiven, BracesGiven, AmountGiven}
-use Rattle.books.specs.Lookups.{own_of}
+use Rattle.books.specs.Lookups.{commodity_number, number_or_0, own_of}
 use Rattle.books.specs.Conditions.{draft_under_way, no_such_draft, bad_date, bad_account_name, bad_commodity_name, bad_number, has_minus, goes_back, declared_already, not_declared, opened_before, not_open, none_under, not_the_own_commodity, too_many_postings, holds_a_blank, braces_without_use, balance_differs, not_empty, commodities_full, accounts_full, record_too_short, too_many_rows}
 
 -- a refusal, the line that it reports, and whether it is met
@@ -46,9 +41,49 @@ abbrev pub if_given : {X Y : Type 0} → (X → List Y) → Option X → List Y
 if_given f None = []
 if_given f (Some x) = f x
 
+-- it is given, and passes a test
+abbrev pub given_and : {X : Type 0} → (X → Bool) → Option X → Bool
+given_and test None = false
+given_and test (Some x) = test x
+
 -- dated calls: 1, the date, the other fields, 12, and what follows it
 abbrev pub dated_tests : State → ℕ → ℕ → List (Refusal × Bool) → List (Refusal × Bool) → List (Refusal × Bool)
 dated_tests s date rank fields others = (DraftUnderWay, draft_under_way s) ∷ (BadDate, bad_date date) ∷ (fields ++ ((GoesBack, goes_back s date rank) ∷ others))
+
+-- their tables
+
+abbrev pub declaring_tests : State → ℕ → List ℕ → List (Refusal × Bool)
+declaring_tests s date name =
+    dated_tests s date 0 ((BadCommodityName, bad_commodity_name name) ∷ [])
+    ((CommodityDeclaredAlready, declared_already s.names name)
+    ∷ (BooksFull, commodities_full s.names)
+    ∷ [])
+
+abbrev pub opening_tests : State → ℕ → List ℕ → Option (List ℕ) → List (Refusal × Bool)
+opening_tests s date name own =
+    dated_tests s date 0 ((BadAccountName, bad_account_name name) ∷ (BadCommodityName, given_and bad_commodity_name own) ∷ [])
+    ((CommodityNotDeclared, given_and (not_declared s.names) own)
+    ∷ (AccountOpenedBefore, opened_before s.names name)
+    ∷ (BooksFull, accounts_full s.names)
+    ∷ [])
+
+abbrev pub asserting_tests : State → ℕ → List ℕ → ℤ → List ℕ → List (Refusal × Bool)
+asserting_tests s date account amount commodity =
+    dated_tests s date 1 ((BadAccountName, bad_account_name account) ∷ (BadNumber, bad_number amount) ∷ (BadCommodityName, bad_commodity_name commodity) ∷ [])
+    ((CommodityNotDeclared, not_declared s.names commodity)
+    ∷ (AccountNotOpen, none_under s.names account)
+    ∷ (BalanceDiffers, balance_differs s account amount commodity)
+    ∷ [])
+
+abbrev pub closing_tests : State → ℕ → List ℕ → List (Refusal × Bool)
+closing_tests s date account =
+    dated_tests s date 3 ((BadAccountName, bad_account_name account) ∷ [])
+    ((AccountNotOpen, not_open s.names account)
+    ∷ (AccountNotEmpty, not_empty s account)
+    ∷ [])
+
+abbrev pub beginning_tests : State → ℕ → List (Refusal × Bool)
+beginning_tests s date = dated_tests s date 2 [] []
 
 -- inside braces: the cost's number, its minus, its commodity, then the date
 abbrev pub cost_fields : CostGiven → List (Refusal × Bool)
@@ -65,19 +100,29 @@ abbrev pub drafted : Option Draft → List Posting
 drafted None = []
 drafted (Some d) = d.postings
 
-abbrev pub amount_tests : State → ℕ → List ℕ → AmountGiven → List (Refusal × Bool)
-amount_tests s slip account x =
-    (NoSuchDraft, no_such_draft s slip)
-    ∷ (BadAccountName, bad_account_name account)
+-- a posting of an amount: 2, the fields, 14, and then 16 to 18 and 20
+abbrev pub amount_fields : List ℕ → AmountGiven → List (Refusal × Bool)
+amount_fields account x =
+    (BadAccountName, bad_account_name account)
     ∷ (BadNumber, bad_number x.number)
     ∷ (BadCommodityName, bad_commodity_name x.commodity)
-    ∷ (if_given braces_fields x.braces
-    ++ ((CommodityNotDeclared, not_declared s.names x.commodity)
-    ∷ (if_given (cost_not_declared s) x.braces
-    ++ ((AccountNotOpen, not_open s.names account)
-    ∷ (NotTheOwnCommodity, not_the_own_commodity s.names account x.commodity)
+    ∷ if_given braces_fields x.braces
+
+-- of a commodity told by its number
+abbrev pub account_tests : State → List ℕ → ℕ → AmountGiven → List (Refusal × Bool)
+account_tests s account commodity x =
+    (AccountNotOpen, not_open s.names account)
+    ∷ (NotTheOwnCommodity, not_the_own_commodity s.names account commodity)
     ∷ (TooManyPostings, too_many_postings (drafted s.draft))
-    ∷ if_given (λ b. (BracesWithoutUse, braces_without_use x.number b) ∷ []) x.braces))))
+    ∷ if_given (λ b. (BracesWithoutUse, braces_without_use x.number b) ∷ []) x.braces
+
+abbrev pub commodity_tests : State → List ℕ → AmountGiven → List (Refusal × Bool)
+commodity_tests s account x =
+    (CommodityNotDeclared, not_declared s.names x.commodity)
+    ∷ (if_given (cost_not_declared s) x.braces ++ account_tests s account (number_or_0 (commodity_number s.names x.commodity)) x)
+
+abbrev pub amount_tests : State → ℕ → List ℕ → AmountGiven → List (Refusal × Bool)
+amount_tests s slip account x = (NoSuchDraft, no_such_draft s slip) ∷ (amount_fields account x ++ commodity_tests s account x)
 
 abbrev pub blank_tests : State → ℕ → List ℕ → List (Refusal × Bool)
 blank_tests s slip account =
@@ -92,20 +137,7 @@ abbrev pub posting_tests : State → ℕ → List ℕ → Option AmountGiven →
 posting_tests s slip account None = blank_tests s slip account
 posting_tests s slip account (Some x) = amount_tests s slip account x
 
--- 21 to 24, of a posting of a draft upon the lots before it
-abbrev pub lots_tests : Order → ℕ → ℕ → Table → PostingKind → List (Refusal × Bool)
-lots_tests o day account t Blank = []
-lots_tests o day account t (Plain amount commodity) = []
-lots_tests o day account t (Purchase units commodity cost date) =
-    (LotTooLarge, nat_lt most (units_of_key (purchase_key day account commodity cost date) t.lots + units))
-    ∷ (TooManyLots, not (is_open (purchase_key day account commodity cost date) t.lots) && nat_le 256 (length t.lots))
-    ∷ []
-lots_tests o day account t (Reduction units commodity cost date) =
-    (TooFewUnits, nat_lt (units_matching (matches (wanted_lots account commodity cost date)) t.lots) units)
-    ∷ (NotSettledByPolicy, not (settled o (matches (wanted_lots account commodity cost date)) units t.lots))
-    ∷ []
-
--- the postings in order, each upon the lots that the one before left, with its own line
+-- 21 to 24: the postings in order, each upon the lots that the one before left, with its own line
 abbrev pub lots_tests_of_all : Order → ℕ → Table → List Posting → List Test
 lots_tests_of_all o day t [] = []
 lots_tests_of_all o day t (p ∷ ps) = tests_at p.line (lots_tests o day p.account t p.kind) ++ lots_tests_of_all o day (table_after_posting o day t p) ps
@@ -128,33 +160,11 @@ draft_tests o s lent d = lots_tests_of_all o d.date s.books.table d.postings ++ 
 
 -- the table of each call
 abbrev pub tests : Order → State → Call → List Test
-tests o s (declaring source date name) =
-    tests_at source
-    (dated_tests s date 0 ((BadCommodityName, bad_commodity_name name) ∷ [])
-    ((CommodityDeclaredAlready, declared_already s.names name)
-    ∷ (BooksFull, commodities_full s.names)
-    ∷ []))
-tests o s (opening source date name own) =
-    tests_at source
-    (dated_tests s date 0 ((BadAccountName, bad_account_name name) ∷ if_given (λ c. (BadCommodityName, bad_commodity_name c) ∷ []) own)
-    (if_given (λ c. (CommodityNotDeclared, not_declared s.names c) ∷ []) own
-    ++ ((AccountOpenedBefore, opened_before s.names name)
-    ∷ (BooksFull, accounts_full s.names)
-    ∷ [])))
-tests o s (asserting source date account amount commodity) =
-    tests_at source
-    (dated_tests s date 1 ((BadAccountName, bad_account_name account) ∷ (BadNumber, bad_number amount) ∷ (BadCommodityName, bad_commodity_name commodity) ∷ [])
-    ((CommodityNotDeclared, not_declared s.names commodity)
-    ∷ (AccountNotOpen, none_under s.names account)
-    ∷ (BalanceDiffers, balance_differs s account amount commodity)
-    ∷ []))
-tests o s (closing source date account) =
-    tests_at source
-    (dated_tests s date 3 ((BadAccountName, bad_account_name account) ∷ [])
-    ((AccountNotOpen, not_open s.names account)
-    ∷ (AccountNotEmpty, not_empty s account)
-    ∷ []))
-tests o s (beginning source date flag) = tests_at source (dated_tests s date 2 [] [])
+tests o s (declaring source date name) = tests_at source (declaring_tests s date name)
+tests o s (opening source date name own) = tests_at source (opening_tests s date name own)
+tests o s (asserting source date account amount commodity) = tests_at source (asserting_tests s date account amount commodity)
+tests o s (closing source date account) = tests_at source (closing_tests s date account)
+tests o s (beginning source date flag) = tests_at source (beginning_tests s date)
 tests o s (posting slip source account amount) = tests_at source (posting_tests s slip account amount)
 tests o s (settling slip lent) = tests_at 0 ((NoSuchDraft, no_such_draft s slip) ∷ []) ++ if_given (draft_tests o s lent) s.draft
 tests o s (tearing slip) = tests_at 0 ((NoSuchDraft, no_such_draft s slip) ∷ [])

@@ -1,5 +1,5 @@
 -- The ledger as lists and numbers.
-use Rattle.std.specs.Prelude.{ℕ, List, [], ℤ, None, Option}
+use Rattle.std.specs.Prelude.{ℕ, ◌+◌, List, [], ℤ, None, Option}
 use Rattle.stock.specs.Tables.{Table, no_lots}
 use Rattle.booking.specs.declared.draft.Draft.{Draft}
 use Rattle.booking.specs.Balances.{no_balances}
@@ -9,6 +9,9 @@ use Rattle.books.specs.declared.account.Account.{Account}
 pub record Names : Type 0 where
   pub commodities : List (List ℕ)
   pub accounts : List Account
+
+abbrev pub no_names : Names
+no_names = record { commodities = []; accounts = [] }
 
 -- plain balances by account and commodity, and the open lots
 pub record Books : Type 0 where
@@ -28,7 +31,7 @@ pub record State : Type 0 where
 -- a new ledger
 abbrev pub empty_ledger : State
 empty_ledger = record {
-  names = record { commodities = []; accounts = [] };
+  names = no_names;
   books = record { balances = no_balances; table = no_lots };
   draft = None;
   last_date = 0;
@@ -36,3 +39,7 @@ empty_ledger = record {
   transactions = 0;
   rows = 0;
 }
+
+-- the number of the draft under way, which its slip bears, and of the transaction that it becomes; where none is, of the next one
+abbrev pub next_number : State → ℕ
+next_number s = s.transactions + 1

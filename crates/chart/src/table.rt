@@ -5,7 +5,8 @@ ghost use Rattle.values.specs.Names.{is_commodity_name, is_account_name};
 ghost use Rattle.books.specs.Conditions.{commodities_full, accounts_full};
 ghost use Rattle.books.specs.Lookups.{commodity_number, account_number, open_account, any_under, own_of};
 ghost use Rattle.books.specs.Changes as books;
-ghost use Rattle.chart.specs.Changes.{no_names, with_commodity, with_account, with_closed, account_added};
+ghost use Rattle.books.specs.States.{no_names};
+ghost use Rattle.chart.specs.Changes.{with_commodity, with_account};
 
 use booking::limits::{MOST_ACCOUNTS, MOST_COMMODITIES};
 use books::account::Account;
@@ -162,7 +163,7 @@ impl Chart {
     pub fn open(&mut self, name: &[u8], own: Option<u8>) -> u16
         ensures number { result ≡ length self.old.accounts + 1 }
         ensures defined { self.new ≡ with_account name.now own self.old }
-        ensures allowed { is_account_name name.now ≡ true → accounts_full self.old ≡ false → self.new ≡ account_added name.now own self.old }
+        ensures allowed { is_account_name name.now ≡ true → accounts_full self.old ≡ false → self.new ≡ books.account_added self.old name.now own }
     {
         let number = account_at(self.accounts());
         let _ = self.accounts.push(Account {
@@ -175,7 +176,7 @@ impl Chart {
 
     // The account of a number is open no more.
     pub fn close(&mut self, account: u16)
-        ensures { self.new ≡ with_closed account self.old }
+        ensures { self.new ≡ books.with_account_closed self.old account }
     {
         let place = place_of(account);
         if let Some(kept) = self.account_list().get(place) {

@@ -1,13 +1,9 @@
 // Tests of what is given for a posting, in the order in which a journal writes it.
-ghost use Rattle.std.specs.Prelude.{◌≡◌, ◌∷◌, true, OnOk, IfSome};
-ghost use Rattle.std.specs.Option.{option_map};
-ghost use Rattle.booking.specs.Balances.{first_met};
-ghost use Rattle.booking.specs.Stages.{unless};
-ghost use Rattle.booking.specs.Weighing.{is_amount};
-ghost use Rattle.refusal.specs.declared.Refusal.TheVariants.{BadAccountName, BadCommodityName, BadNumber};
-ghost use Rattle.books.specs.Given.{given_cost, given_braces};
-ghost use Rattle.books.specs.Conditions.{bad_account_name, bad_commodity_name, bad_number};
-ghost use Rattle.books.specs.Refusals.{if_given, cost_fields, braces_fields};
+ghost use Rattle.std.specs.Prelude.{◌≡◌, true, OnOk, IfSome};
+ghost use Rattle.refusal.specs.Refusing.{first_met, unless};
+ghost use Rattle.values.specs.Amounts.{is_amount};
+ghost use Rattle.books.specs.Given.{given_cost, given_braces, given_amount};
+ghost use Rattle.books.specs.Refusals.{cost_fields, braces_fields, amount_fields};
 
 use crate::checks::{
     check_account_name, check_commodity_name, check_date, check_number, refuse_unless,
@@ -36,7 +32,7 @@ fn check_braces(braces: GivenBraces<'_>) -> Result<(), Refusal>
 
 // What is posted to an account: its name, the number, the commodity, then the braces.
 pub fn check_amount(account: &[u8], amount: GivenAmount<'_>) -> Result<(), Refusal>
-    ensures checked { result ≡ unless (first_met ((BadAccountName, bad_account_name account.now) ∷ (BadNumber, bad_number amount.entry.number) ∷ (BadCommodityName, bad_commodity_name amount.entry.commodity.now) ∷ if_given braces_fields (option_map given_braces amount.entry.braces))) tt }
+    ensures checked { result ≡ unless (first_met (amount_fields account.now (given_amount amount.entry))) tt }
     ensures ranged { OnOk result (is_amount amount.entry.number ≡ true) }
     ensures cost { OnOk result (IfSome amount.entry.braces (λ b. IfSome b.cost (λ c. is_amount c.number ≡ true))) }
 {

@@ -14,4 +14,4 @@ units_within M [] ranges = omega arith
 units_within M (r ∷ rs) ranges = let ih = units_within M rs ranges.1 in let here = ranges.0 in grind (arith, nat_tests)
 
 pub kept_few : (M : LotRow → Bool) (t : Table) → WellKept t → units_matching M t.lots ≤ most_in_lots
-kept_few M t kept = omega (arith, units_within M t.lots kept.ranges, kept.at_most_256)
+kept_few M t kept = omega (arith, units_within M t.lots kept.ranges, kept.at_most)

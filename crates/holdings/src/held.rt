@@ -8,6 +8,7 @@ ghost use Rattle.booking.specs.Postings.{wanted_lots};
 ghost use Rattle.booking.specs.Weighing.{is_zero};
 ghost use Rattle.balances.specs.Stages.{weighed};
 ghost use Rattle.books.specs.Holdings.{units_in_lots, plain_balance, holding, holdings_under, no_plain_balance, has_lot, is_empty_account};
+ghost use Rattle.books.specs.Changes.{books_after};
 ghost use Rattle.books.specs.States.{empty_ledger};
 ghost use Rattle.holdings.specs.Bounds.{most_in_lots, largest_holding};
 
@@ -54,7 +55,7 @@ impl Holdings {
     // What is held once a booked draft is settled.
     pub fn settle(&mut self, booked: &Booked)
         requires { all_within (balances_after self.old.balances booked.now.1) ≡ true }
-        ensures { self.new ≡ record { balances = balances_after self.old.balances booked.now.1; table = booked.now.0 } }
+        ensures { self.new ≡ books_after self.old booked.now.0 booked.now.1 }
     {
         self.balances.add(&booked.entries);
         self.lots.copy_from(&booked.lots);

@@ -25,7 +25,7 @@ use Rattle.books.specs.declared.outcome.Outcome.TheVariants.{Refused}
 use Rattle.books.specs.Changes.{change, reply}
 use Rattle.books.specs.Refusals.{Test, fault_of, tests}
 use Rattle.values.specs.Spelling.{Starts}
-use Rattle.books.specs.States.{State}
+use Rattle.books.specs.States.{State, next_number}
 use Rattle.books.specs.Steps.{step, FirstMet}
 use Rattle.books.proofs.Firsts.{answers_first_met}
 use Rattle.law.specs.Histories.{accepted}
@@ -33,7 +33,7 @@ use Rattle.law.proofs.Runs.{reply_accepted}
 use Rattle.reader.specs.declared.phase.Phase.{Phase}
 use Rattle.reader.specs.declared.phase.Phase.TheVariants.{Outside, InTransaction, Skipping}
 use Rattle.reader.specs.Asked.{call_asked, units_given}
-use Rattle.reader.specs.Turns.{slip_number, said_turn, directive_turn, posting_turn}
+use Rattle.reader.specs.Turns.{said_turn, directive_turn, posting_turn}
 use Rattle.reader.specs.Readings.{books, after_lines, unread}
 use Rattle.journals.specs.Accepted.{Exactly, outcome_accepted, BooksAllow, Allowed, LineExactly, AcceptedExactly, read_before}
 
@@ -59,17 +59,17 @@ call_exactly o s c =
 -- Directive lines.
 
 -- of a line that says d and nothing else
-written_exactly : (o : Order) (s : State) (number : ℕ) (line : List ℕ) (d : Said) (b : Bool) → Written number line d → ((other : Said) → Written number line other → other ≡ d) → Exactly b (BooksAllow o s (call_asked number (slip_number s) d)) → Exactly b (Allowed o s number line)
+written_exactly : (o : Order) (s : State) (number : ℕ) (line : List ℕ) (d : Said) (b : Bool) → Written number line d → ((other : Said) → Written number line other → other ≡ d) → Exactly b (BooksAllow o s (call_asked number (next_number s) d)) → Exactly b (Allowed o s number line)
 written_exactly o s number line d b written alone e = record {
   only_where = λ yes. (d, written, e.only_where yes);
-  wherever = λ allowed. e.wherever (subst (λ (x : Said). BooksAllow o s (call_asked number (slip_number s) x)) (alone allowed.0 allowed.1) allowed.2);
+  wherever = λ allowed. e.wherever (subst (λ (x : Said). BooksAllow o s (call_asked number (next_number s) x)) (alone allowed.0 allowed.1) allowed.2);
 }
 
 -- a line that no form fits
 unwritten_exactly : (o : Order) (s : State) (number : ℕ) (line : List ℕ) → ((d : Said) → Written number line d → ⊥) → Exactly false (Allowed o s number line)
 unwritten_exactly o s number line none = record { only_where = λ yes. absurd (false≢true yes); wherever = λ allowed. absurd (none allowed.0 allowed.1) }
 
-said_exactly : (o : Order) (s : State) (number : ℕ) (d : Said) → ((p : PostingSaid) → d ≡ posting p → ⊥) → Exactly (outcome_accepted (said_turn o s number d).outcome) (BooksAllow o s (call_asked number (slip_number s) d))
+said_exactly : (o : Order) (s : State) (number : ℕ) (d : Said) → ((p : PostingSaid) → d ≡ posting p → ⊥) → Exactly (outcome_accepted (said_turn o s number d).outcome) (BooksAllow o s (call_asked number (next_number s) d))
 said_exactly o s number (booking_method m) other = record { only_where = λ _. tt; wherever = λ _. refl }
 said_exactly o s number (commodity d name) other = call_exactly o s (call.declaring number d name.text)
 said_exactly o s number (opening d account own) other = call_exactly o s (call.opening number d account.text (option_map (λ (x : Spot). x.text) own))
@@ -124,7 +124,7 @@ posting_exactly o s number line post = by (line_says number line) refl (reads_ex
     by (Err f) is exactly = unwritten_exactly o s number line exactly.1
     by (Ok None) is exactly = absurd (let p = says_a_posting number line post is in cc)
     by (Ok (Some (posting p))) is exactly =
-        written_exactly o s number line (posting p) _ exactly.0 exactly.1 (call_exactly o s (call.posting (slip_number s) number p.account.text (option_map units_given p.units)))
+        written_exactly o s number line (posting p) _ exactly.0 exactly.1 (call_exactly o s (call.posting (next_number s) number p.account.text (option_map units_given p.units)))
     by (Ok (Some d)) is exactly = absurd (let p = says_a_posting number line post is in cc)
 
 pub line_exactly : (o : Order) (s : State) (number : ℕ) (line : List ℕ) (phase : Phase) (k : LineKind) → line_kind line ≡ k → LineExactly o s number line phase k
@@ -139,5 +139,5 @@ line_exactly o s number line phase kind.Other is = directive_exactly o s number 
 pub accepted_exactly : (o : Order) (lent : ℕ) (lines : List (List ℕ)) → AcceptedExactly o lent lines
 accepted_exactly o lent lines = record {
   each_line = λ before line behind _. line_exactly o (books o (read_before o lent before line)) (length before + 1) line (read_before o lent before line).phase (line_kind line) refl;
-  each_draft = λ before behind _. let s = books o (after_lines o lent 1 unread before) in call_exactly o s (settling (slip_number s) lent);
+  each_draft = λ before behind _. let s = books o (after_lines o lent 1 unread before) in call_exactly o s (settling (next_number s) lent);
 }

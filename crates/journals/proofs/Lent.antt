@@ -12,11 +12,11 @@ use Rattle.lines.specs.declared.line.LineKind.TheVariants as kind
 use Rattle.books.specs.declared.outcome.Outcome.{Outcome}
 use Rattle.books.specs.Calls.{Call, tearing}
 use Rattle.books.specs.Lending.{LentWithin}
-use Rattle.books.specs.States.{State}
+use Rattle.books.specs.States.{State, next_number}
 use Rattle.law.specs.Histories.{accepted}
 use Rattle.reader.specs.declared.phase.Phase.{Phase}
 use Rattle.reader.specs.declared.phase.Phase.TheVariants.{Outside, InTransaction, Skipping}
-use Rattle.reader.specs.Turns.{slip_number, or_torn, said_turn, directive_turn, posting_turn, settling_turn, line_turn}
+use Rattle.reader.specs.Turns.{or_torn, said_turn, directive_turn, posting_turn, settling_turn, line_turn}
 use Rattle.reader.specs.Readings.{Reading, unread, books, took, ends_draft, draft_ended, after_line, after_lines, read_from, unless_too_long, journal_read}
 
 module _ (o : Order) (lent : ℕ) where
@@ -24,7 +24,7 @@ module _ (o : Order) (lent : ℕ) where
   All cs = AllByRecursion (LentWithin lent) cs
 
   torn_too : (s : State) (c : Call) (x : Outcome) → LentWithin lent c → All (or_torn s c x)
-  torn_too s c x l = cond_both (accepted x) (c ∷ []) (c ∷ tearing (slip_number s) ∷ []) All (λ _. (l, tt)) (λ _. (l, (tt, tt)))
+  torn_too s c x l = cond_both (accepted x) (c ∷ []) (c ∷ tearing (next_number s) ∷ []) All (λ _. (l, tt)) (λ _. (l, (tt, tt)))
 
   settled : (s : State) → All (settling_turn o s lent).calls
   settled s = torn_too s _ _ (omega arith)

@@ -10,12 +10,12 @@ use Rattle.lines.specs.declared.line.LineKind.TheVariants as kind
 use Rattle.books.specs.declared.outcome.Outcome.{Outcome}
 use Rattle.books.specs.Calls.{Call, settling}
 use Rattle.books.specs.Refusals.{tests}
-use Rattle.books.specs.States.{State}
+use Rattle.books.specs.States.{State, next_number}
 use Rattle.law.specs.Histories.{accepted}
 use Rattle.reader.specs.declared.phase.Phase.{Phase}
 use Rattle.reader.specs.declared.phase.Phase.TheVariants.{Outside, InTransaction, Skipping}
 use Rattle.reader.specs.Asked.{call_asked}
-use Rattle.reader.specs.Turns.{slip_number, line_turn, settling_turn}
+use Rattle.reader.specs.Turns.{line_turn, settling_turn}
 use Rattle.reader.specs.Readings.{Reading, unread, books, draft_ended, after_lines}
 
 -- something is answered yes where, and only where, a fact holds
@@ -35,7 +35,7 @@ BooksAllow o s (Some c) = AllByRecursion (λ t. t.met ≡ false) (tests o s c)
 
 -- the line is written in a form of the grammar, and the books allow what it says there
 abbrev pub Allowed : Order → State → ℕ → List ℕ → Type 0
-Allowed o s number line = (d : Said) × Written number line d × BooksAllow o s (call_asked number (slip_number s) d)
+Allowed o s number line = (d : Said) × Written number line d × BooksAllow o s (call_asked number (next_number s) d)
 
 -- A directive line, and a posting line of a transaction under way, are accepted exactly where grammar and books allow them.
 -- A posting line that belongs to no transaction is refused, and below a refused line it is not looked at.
@@ -48,7 +48,7 @@ LineExactly o s number line phase kind.Other = Exactly (outcome_accepted (line_t
 
 -- a draft is settled exactly where the books allow that
 abbrev pub DraftExactly : Order → ℕ → State → Type 0
-DraftExactly o lent s = Exactly (outcome_accepted (settling_turn o s lent).outcome) (BooksAllow o s (Some (settling (slip_number s) lent)))
+DraftExactly o lent s = Exactly (outcome_accepted (settling_turn o s lent).outcome) (BooksAllow o s (Some (settling (next_number s) lent)))
 
 -- what was read before a line, the draft that the line ends settled or torn
 abbrev pub read_before : Order → ℕ → List (List ℕ) → List ℕ → Reading

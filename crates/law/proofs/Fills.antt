@@ -4,13 +4,14 @@ use Rattle.std.proofs.Common.{◌≡◌, ℕ, zero, suc, ◌≤◌, Bool, true, 
 use Rattle.std.specs.List.{AllByRecursion}
 use Rattle.std.proofs.lemmas.Int.{ints}
 use Rattle.std.proofs.lemmas.Bool.{false≢true, and_parts, cond-true, cond-false, cond_both, cases_eq, cases_Bool, eq-eqb, ne_eqb, both_ways, not-false}
+use Rattle.values.specs.Amounts.{is_amount}
 use Rattle.matching.specs.Sums.{sum_of, sum_of_ints}
 use Rattle.matching.specs.Drawn.{Member}
 use Rattle.matching.proofs.Sums.{by_bool}
 use Rattle.booking.specs.declared.entry.Entry.{Entry}
 use Rattle.booking.specs.declared.entry.EntryKind.{EntryKind}
 use Rattle.booking.specs.declared.entry.EntryKind.TheVariants.{Unfilled, Filled}
-use Rattle.booking.specs.Weighing.{weight_sum, is_zero, unbalanced, unbalanced_in, is_empty, is_unfilled, has_blank, filled_with, fill, blank_amount, is_whole, is_amount, own_agrees, can_fill, filled_by, complete}
+use Rattle.booking.specs.Weighing.{weight_sum, is_zero, unbalanced, unbalanced_in, is_empty, is_unfilled, has_blank, filled_with, fill, blank_amount, is_whole, own_agrees, can_fill, filled_by, complete}
 use Rattle.booking.proofs.Filling.{blank_balances}
 use Rattle.law.proofs.Stocks.{lots_weight, lots_weight_sum}
 use Rattle.law.proofs.Plains.{KindThere, EntryThere, in_commodity}

@@ -1,12 +1,11 @@
--- At most 256 lots are open, each within its ranges, since purchases that would pass them are refused.
-use Rattle.std.proofs.Common.{◌≡◌, ℕ, suc, ◌+◌, ◌<◌, ◌≤◌, Bool, true, false, cond, ◌||◌, ltb, leb, List, [], ◌∷◌, length, Some, None, refl, ap, subst, arith}
+-- No more lots are open than can be, each within its ranges, since purchases that would pass them are refused.
+use Rattle.std.proofs.Common.{◌≡◌, ℕ, suc, ◌+◌, ◌<◌, ◌≤◌, Bool, true, false, cond, not, ◌&&◌, ◌||◌, leb, List, [], ◌∷◌, length, None, refl, ap, subst, arith}
 use Rattle.std.specs.List.{AllByRecursion}
 use Rattle.std.proofs.lemmas.List.{length_push}
 use Rattle.std.proofs.ByRecursion.{All-push, All-weaker}
 use Rattle.std.proofs.lemmas.Bool.Decides.{nat_tests}
-use Rattle.books.proofs.Tests.{unrefused}
+use Rattle.books.proofs.Tests.{none_met}
 use Rattle.std.proofs.lemmas.Bool.{false≢true, cond_both, ltb-false}
-use Rattle.refusal.specs.declared.Refusal.TheVariants.{LotTooLarge, TooManyLots}
 use Rattle.lots.specs.declared.rows.Key.{Key}
 use Rattle.lots.specs.declared.rows.LotRow.{LotRow}
 use Rattle.lots.specs.Rows.{most, in_range, with_more, with_fewer}
@@ -14,7 +13,7 @@ use Rattle.lots.specs.Orders.{Order}
 use Rattle.matching.specs.Matching.{matches}
 use Rattle.matching.specs.Drawing.{gives, lots_left}
 use Rattle.matching.proofs.Sums.{by_bool}
-use Rattle.stock.specs.Tables.{Table, of_key, is_open, units_of_key, add_units}
+use Rattle.stock.specs.Tables.{Table, most_lots, of_key, is_open, units_of_key, purchase_tests, add_units}
 use Rattle.stock.specs.Kept.{WellKept}
 use Rattle.booking.specs.declared.posting.Posting.{Posting}
 use Rattle.booking.specs.declared.posting.PostingKind.{PostingKind}
@@ -26,7 +25,7 @@ use Rattle.law.proofs.Reaching.{first_none}
 use Rattle.law.proofs.Postings.{Buys, KindOfPostingThere, PostingThere}
 
 pub record Within (t : Table) : Type 0 where
-  pub at_most_256 : length t.lots ≤ 256
+  pub at_most : length t.lots ≤ most_lots
   pub ranges : AllByRecursion (λ r. in_range r ≡ true) t.lots
 
 in_range_from : (r : LotRow) → 1 ≤ r.units → r.units ≤ most → r.key.cost.number ≤ most → in_range r ≡ true
@@ -52,15 +51,15 @@ module _ (k : Key) (n next : ℕ) (some : 1 ≤ n) where
       (λ _ f sum. (all.0, grown_ranges rs f (omega arith) all.1))
       e few
 
-bought_within : (k : Key) (n : ℕ) (t : Table) → Buys n k.cost → units_of_key k t.lots + n ≤ most → (b : Bool) → is_open k t.lots ≡ b → cond b None (cond (leb 256 (length t.lots)) (Some TooManyLots) None) ≡ None → Within t
+bought_within : (k : Key) (n : ℕ) (t : Table) → Buys n k.cost → units_of_key k t.lots + n ≤ most → (b : Bool) → is_open k t.lots ≡ b → (not b && leb most_lots (length t.lots)) ≡ false → Within t
     → Within (record { lots = add_units k n t.next t.lots; next = cond b t.next (t.next + 1) })
 bought_within k n t buys few true e met w =
-    record { at_most_256 = let l = grown_length k n t.next buys.some t.lots e in let m = w.at_most_256 in omega arith; ranges = grown_ranges k n t.next buys.some t.lots e few w.ranges }
+    record { at_most = let l = grown_length k n t.next buys.some t.lots e in let m = w.at_most in omega arith; ranges = grown_ranges k n t.next buys.some t.lots e few w.ranges }
 bought_within k n t buys few false e met w =
     let x : LotRow = record { key = k; units = n; serial = t.next } in
-    let room : length t.lots < 256 = grind (arith, nat_tests, met) in
+    let room : length t.lots < most_lots = grind (arith, nat_tests, met) in
     subst (λ (xs : List LotRow). Within (record { lots = xs; next = t.next + 1 })) (added_new k n t.next t.lots e)
-    (record { at_most_256 = let l = length_push t.lots x in omega arith; ranges = All-push (λ r. in_range r ≡ true) t.lots x w.ranges (in_range_from x buys.some buys.few buys.cheap) })
+    (record { at_most = let l = length_push t.lots x in omega arith; ranges = All-push (λ r. in_range r ≡ true) t.lots x w.ranges (in_range_from x buys.some buys.few buys.cheap) })
 
 -- Reductions.
 
@@ -78,11 +77,11 @@ left_ranges g lots all = all_left (λ r. in_range r ≡ true) g (λ r e l. let p
 kind_within : (o : Order) (day a : ℕ) (t : Table) (kind : PostingKind) → KindOfPostingThere a kind → kind_refusal o day a t kind ≡ None → Within t → Within (table_after_kind o day a t kind)
 kind_within o day a t (Purchase n commodity cost date) there e w =
     let k = purchase_key day a commodity cost date in
-    let met = unrefused (ltb most (units_of_key k t.lots + n)) LotTooLarge (cond (is_open k t.lots) None (cond (leb 256 (length t.lots)) (Some TooManyLots) None)) e in
-    bought_within k n t there (ltb-false most (units_of_key k t.lots + n) met.0) (is_open k t.lots) refl met.1 w
+    let unmet = none_met (purchase_tests k n t) e in
+    bought_within k n t there (ltb-false most (units_of_key k t.lots + n) unmet.0) (is_open k t.lots) refl unmet.1.0 w
 kind_within o day a t (Reduction u commodity cost date) there e w =
     let g = gives (matches (wanted_lots a commodity cost date)) (o.before u) u t.lots in
-    record { at_most_256 = let l = left_length g t.lots in let m = w.at_most_256 in omega arith; ranges = left_ranges g t.lots w.ranges }
+    record { at_most = let l = left_length g t.lots in let m = w.at_most in omega arith; ranges = left_ranges g t.lots w.ranges }
 kind_within o day a t _ there e w = w
 
 pub postings_within : (o : Order) (day : ℕ) (ps : List Posting) (t : Table) → AllByRecursion PostingThere ps → first_fault o day t ps ≡ None → Within t → Within (table_after o day t ps)
@@ -97,7 +96,7 @@ pub well_kept : (t : Table) (opened : List Key) → Sound opened t → Within t 
 well_kept t opened s w =
     let c = s.counted in
     record {
-      at_most_256 = w.at_most_256;
+      at_most = w.at_most;
       ranges = w.ranges;
       from_one = omega arith;
       serials_given = All-weaker (LotOfOpening opened) (λ r. (1 ≤ r.serial) × (r.serial < t.next)) (λ r m. let g = m.given in (m.from_one, omega arith)) t.lots s.serials;

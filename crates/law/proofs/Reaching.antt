@@ -17,12 +17,13 @@ use Rattle.booking.specs.declared.posting.Posting.{Posting}
 use Rattle.booking.specs.declared.posting.PostingKind.{PostingKind}
 use Rattle.booking.specs.declared.posting.PostingKind.TheVariants.{Purchase, Reduction}
 use Rattle.booking.specs.Postings.{wanted_lots, table_after_posting, draw_entries, kind_refusal, posting_refusal}
-use Rattle.booking.specs.Booking.{at_line, or_else, first_fault}
+use Rattle.booking.specs.Booking.{at_line, first_fault}
 use Rattle.law.specs.Histories.{opened_by_kind}
 use Rattle.law.specs.Reductions.{draws_among, KindDraws, DrawsByPolicy, AsksTooMany, IsUnsettled, Reaches}
 use Rattle.law.proofs.Serials.{Sound, AllSome, kind_sound}
 use Rattle.books.proofs.Tests.{refusal_number, fault_number}
 use Rattle.std.proofs.lemmas.Option.{none-some}
+use Rattle.std.specs.Option.{option_or}
 
 -- the entries of draws are those draws
 draws_back : (line : ℕ) (ds : List Draw) → draws_among (draw_entries line ds) ≡ ds
@@ -67,12 +68,12 @@ module _ (o : Order) (keeps : Keeps o) (day a : ℕ) (t : Table) where
       (closed_form_is_drawn M (o.before u) (keeps.irreflexive u) (keeps.transitive u) (keeps.exactly_one u) u t.lots s.rising s.some covered)
   kind_draws line _ opened s e = tt
 
-pub first_none : (line : ℕ) (m : Option Refusal) (rest : Option Fault) → or_else (at_line line m) rest ≡ None → (m ≡ None) × (rest ≡ None)
+pub first_none : (line : ℕ) (m : Option Refusal) (rest : Option Fault) → option_or (at_line line m) rest ≡ None → (m ≡ None) × (rest ≡ None)
 first_none line None rest e = (refl, e)
 first_none line (Some r) rest e = absurd (none-some _ (sym e))
 
 -- a refusal of that number comes first
-first_number : (line : ℕ) (m : Option Refusal) (rest : Option Fault) (n : ℕ) → refusal_number m ≡ Some n → fault_number (or_else (at_line line m) rest) ≡ Some n
+first_number : (line : ℕ) (m : Option Refusal) (rest : Option Fault) (n : ℕ) → refusal_number m ≡ Some n → fault_number (option_or (at_line line m) rest) ≡ Some n
 first_number line None rest n e = absurd (none-some n e)
 first_number line (Some r) rest n e = e
 
@@ -87,7 +88,7 @@ module _ (o : Order) (keeps : Keeps o) (day : ℕ) where
   module _ (P : ℕ → Table → PostingKind → Type 0) (n : ℕ)
       (to : (a : ℕ) (t : Table) (kind : PostingKind) → refusal_number (kind_refusal o day a t kind) ≡ Some n → P a t kind)
       (from : (a : ℕ) (t : Table) (kind : PostingKind) → SerialsRise t.lots → P a t kind → refusal_number (kind_refusal o day a t kind) ≡ Some n) where
-    here_or_later : (p : Posting) (t : Table) (rest : Option Fault) (R : Type 0) → (fault_number rest ≡ Some n → R) → (m : Option Refusal) → posting_refusal o day t p ≡ m → fault_number (or_else (at_line p.line m) rest) ≡ Some n
+    here_or_later : (p : Posting) (t : Table) (rest : Option Fault) (R : Type 0) → (fault_number rest ≡ Some n → R) → (m : Option Refusal) → posting_refusal o day t p ≡ m → fault_number (option_or (at_line p.line m) rest) ≡ Some n
         → P p.account t p.kind ⊎ ((posting_refusal o day t p ≡ None) × R)
     here_or_later p t rest R later None e q = inr (e, later q)
     here_or_later p t rest R later (Some r) e q = inl (to p.account t p.kind (ap refusal_number e ∙ q))
@@ -106,7 +107,7 @@ module _ (o : Order) (keeps : Keeps o) (day : ℕ) where
         ⊎_elim
         (λ (h : P p.account t p.kind). first_number p.line (posting_refusal o day t p) rest n (from p.account t p.kind s.rising h))
         (λ (h : (posting_refusal o day t p ≡ None) × Reaches o day P after ps).
-        ap (λ (m : Option Refusal). fault_number (or_else (at_line p.line m) rest)) h.0
+        ap (λ (m : Option Refusal). fault_number (option_or (at_line p.line m) rest)) h.0
         ∙ reaching ps after (opened ++ opened_by_kind day p.account t p.kind) some.1 (kind_sound o day p.account t p.kind opened some.0 s) h.1)
         r
 

@@ -1,15 +1,14 @@
 -- The law over runs.
 use Rattle.std.proofs.Common.{rules, tests, ◌≡◌, ℕ, ◌+◌, ◌-◌, ◌*◌, ◌≤◌, Bool, true, false, cond, not, ◌&&◌, List, [], ◌∷◌, ◌++◌, length, pos, Some, None, Option, sym, refl, ap, ◌∙◌, subst, arith, length-append}
 use Rattle.std.proofs.lemmas.Bool.Decides.{nat_tests}
-use Rattle.std.specs.Option.{option_map}
+use Rattle.std.specs.Option.{option_map, option_or}
 use Rattle.std.specs.List.{AllByRecursion}
 use Rattle.std.proofs.lemmas.List.{get_or-replicate}
 use Rattle.std.proofs.ByRecursion.{All-append, All-push}
 use Rattle.std.proofs.lemmas.Int.{ints}
 use Rattle.std.proofs.lemmas.Bool.{or_parts, leb-false, cond-true, false≢true}
 use Rattle.std.proofs.lemmas.Option.{none-some}
-use Rattle.refusal.specs.declared.Refusal.{Refusal}
-use Rattle.refusal.specs.declared.Refusal.TheVariants.{NoSuchDraft, BadCommodityName, BadAccountName, CommodityDeclaredAlready, CommodityNotDeclared, AccountOpenedBefore, BooksFull}
+use Rattle.refusal.specs.declared.Refusal.TheVariants.{NoSuchDraft}
 use Rattle.refusal.specs.declared.Fault.{Fault}
 use Rattle.lots.specs.declared.rows.Key.{Key}
 use Rattle.lots.specs.Orders.{Order, Keeps}
@@ -20,17 +19,17 @@ use Rattle.booking.specs.declared.posting.Posting.{Posting}
 use Rattle.booking.specs.declared.posting.PostingKind.{PostingKind}
 use Rattle.booking.specs.declared.entry.Entry.{Entry}
 use Rattle.refusal.specs.Faults.{fault_at}
-use Rattle.booking.specs.Booking.{entries_of, at_line, or_else, first_fault}
+use Rattle.refusal.specs.Refusing.{first_met}
+use Rattle.booking.specs.Booking.{entries_of, at_line, first_fault}
 use Rattle.booking.specs.Weighing.{kind_weight, weight_sum, unbalanced_in, is_empty, has_blank, blank_account, blank_cannot_be_filled, complete}
-use Rattle.booking.specs.Balances.{first_met}
 use Rattle.books.specs.declared.outcome.Outcome.{Outcome}
 use Rattle.booking.specs.declared.draft.Draft.{Draft}
 use Rattle.books.specs.States.{Books, State, empty_ledger}
 use Rattle.books.specs.Calls.{Call, declaring, opening, asserting, closing, posting, settling, writing_header, AmountGiven}
 use Rattle.books.specs.Lookups.{own_of}
-use Rattle.books.specs.Conditions.{no_such_draft, bad_commodity_name, bad_account_name, declared_already, not_declared, opened_before, commodities_full, accounts_full}
-use Rattle.books.specs.Refusals.{first_fault_met, if_given, dated_tests, posting_tests, draft_entries, whole_draft_tests, draft_tests, refusal}
-use Rattle.books.specs.Changes.{posting_of, with_posting, books_after_draft, after_settling, change, reply}
+use Rattle.books.specs.Conditions.{no_such_draft}
+use Rattle.books.specs.Refusals.{first_fault_met, if_given, declaring_tests, opening_tests, posting_tests, draft_entries, whole_draft_tests, draft_tests, refusal}
+use Rattle.books.specs.Changes.{posting_of, with_posting, lots_after_draft, settled_entries, books_after, after_settling, change, reply}
 use Rattle.books.specs.Steps.{answered, step, state_after, outcomes}
 use Rattle.books.specs.Recording.{transaction_of}
 use Rattle.books.proofs.Nested.{draft_first}
@@ -44,7 +43,7 @@ use Rattle.law.proofs.Plains.{EntryThere, entries_weigh, balances_length, balanc
 use Rattle.law.proofs.Fills.{complete_balances, complete_sum, complete_lots_weight, complete_there, complete_all}
 use Rattle.law.proofs.Serials.{Sound, bears_more, postings_sound, postings_bear}
 use Rattle.law.proofs.Reaching.{draft_draws, too_many_reached, too_many_reaching, unsettled_reached, unsettled_reaching}
-use Rattle.books.proofs.Tests.{fault_number, Unmet, unrefused, none_met, no_line, none_met_at, all_right, both_none, number_differs}
+use Rattle.books.proofs.Tests.{fault_number, Unmet, unrefused, none_met, no_line, none_met_at, both_none, number_differs}
 use Rattle.law.proofs.Limits.{Within, postings_within, well_kept}
 use Rattle.law.proofs.Postings.{Few, PostingThere, DraftThere, entries_there, all_some, joins_there}
 
@@ -81,7 +80,7 @@ module _ (o : Order) (b : Books) (opened : List Key) (es : List Entry) (d : Draf
 
   books_good_after : (own : Option ℕ)
       → (not (has_blank booked) && not (is_empty (unbalanced_in booked))) ≡ false → blank_cannot_be_filled own booked ≡ false → first_fault o d.date b.table d.postings ≡ None
-      → BooksGood (books_after_draft o b d) (opened ++ new_keys) (es ++ complete booked)
+      → BooksGood (books_after b (lots_after_draft o b.table d) (settled_entries o b.table d)) (opened ++ new_keys) (es ++ complete booked)
   books_good_after own t25 t26 unmet_lots =
       let C = complete booked in
       let some = all_some d.postings there in
@@ -137,7 +136,7 @@ settled_good o s lent (Some d) opened xs e there g =
     record {
       names = g.names;
       draft = tt;
-      books = subst (λ (es : List Entry). BooksGood (books_after_draft o s.books d) (opened ++ opened_by o d.date t d.postings) es) (sym all)
+      books = subst (λ (es : List Entry). BooksGood (books_after s.books (lots_after_draft o t d) (settled_entries o t d)) (opened ++ opened_by o d.date t d.postings) es) (sym all)
           (books_good_after o s.books opened (all_entries xs) d g.books there (own_of s.names (blank_account booked)) t25 unmet.1.0 parts.0);
       rows = let r = g.rows in let l = ap length all in let m = length-append (all_entries xs) (complete booked) in omega arith;
       transactions = let r = g.transactions in simp length-append (omega arith);
@@ -153,16 +152,12 @@ module _ (o : Order) where
   accepted_good : (c : Call) (s : State) (opened : List Key) (xs : List Settlement) → refusal o s c ≡ None → Good s opened xs
       → Good (change o s c) (after_accepted o (history s opened xs) c).opened (after_accepted o (history s opened xs) c).settlements
   accepted_good (declaring source date name) s opened xs e g =
-      let unmet = none_met_at source (dated_tests s date 0 ((BadCommodityName, bad_commodity_name name) ∷ []) ((CommodityDeclaredAlready, declared_already s.names name) ∷ (BooksFull, commodities_full s.names) ∷ [])) e in
+      let unmet = none_met_at source (declaring_tests s date name) e in
       let room = leb-false 16 (length s.names.commodities) unmet.1.1.1.1.1.0 in
       record { names = record { commodities = simp length-append (omega arith); accounts = g.names.accounts }; draft = g.draft; books = g.books; rows = g.rows; transactions = g.transactions }
   accepted_good (opening source date name own) s opened xs e g =
-      let fields : List (Refusal × Bool) = (BadAccountName, bad_account_name name) ∷ if_given (λ c. (BadCommodityName, bad_commodity_name c) ∷ []) own in
-      let declared : List (Refusal × Bool) = if_given (λ c. (CommodityNotDeclared, not_declared s.names c) ∷ []) own in
-      let unmet = none_met_at source (dated_tests s date 0 fields (declared ++ ((AccountOpenedBefore, opened_before s.names name) ∷ (BooksFull, accounts_full s.names) ∷ []))) e in
-      let behind_fields = all_right (λ t. t.1 ≡ false) fields _ unmet.1.1 in
-      let behind_own = all_right (λ t. t.1 ≡ false) declared _ behind_fields.1 in
-      let room = leb-false 64 (length s.names.accounts) behind_own.1.0 in
+      let unmet = none_met_at source (opening_tests s date name own) e in
+      let room = leb-false 64 (length s.names.accounts) unmet.1.1.1.1.1.1.1.0 in
       record { names = record { commodities = g.names.commodities; accounts = simp length-append (omega arith) }; draft = g.draft; books = g.books; rows = g.rows; transactions = g.transactions }
   accepted_good (closing source date account) s opened xs e g = search (rules, tests)
   accepted_good (posting slip source account amount) s opened xs e g =
@@ -211,11 +206,11 @@ module _ (o : Order) (keeps : Keeps o) (s : State) (slip lent : ℕ) (opened : L
       (others : (2 ≡ n → ⊥) × (25 ≡ n → ⊥) × (26 ≡ n → ⊥) × (27 ≡ n → ⊥) × (31 ≡ n → ⊥) × (32 ≡ n → ⊥))
       (to : (day : ℕ) (ps : List Posting) → fault_number (first_fault o day s.books.table ps) ≡ Some n → Reaches o day P s.books.table ps)
       (from : (day : ℕ) (ps : List Posting) → AllByRecursion PostingThere ps → Reaches o day P s.books.table ps → fault_number (first_fault o day s.books.table ps) ≡ Some n) where
-    by_first : (f w : Option Fault) → (fault_number w ≡ Some n → ⊥) → fault_number (or_else f w) ≡ Some n → fault_number f ≡ Some n
+    by_first : (f w : Option Fault) → (fault_number w ≡ Some n → ⊥) → fault_number (option_or f w) ≡ Some n → fault_number f ≡ Some n
     by_first None w no_w e = absurd (no_w e)
     by_first (Some x) w no_w e = e
 
-    first_stays : (f w : Option Fault) → fault_number f ≡ Some n → fault_number (or_else f w) ≡ Some n
+    first_stays : (f w : Option Fault) → fault_number f ≡ Some n → fault_number (option_or f w) ≡ Some n
     first_stays None w e = absurd (none-some n e)
     first_stays (Some x) w e = e
 
@@ -298,7 +293,7 @@ empty_good = record {
     weights = λ c l h. refl;
     units = λ k. refl;
     sound = record { counted = refl; serials = tt; rising = tt; differ = tt; some = tt };
-    within = record { at_most_256 = omega arith; ranges = tt };
+    within = record { at_most = omega arith; ranges = tt };
     bears = tt;
   };
   rows = refl;

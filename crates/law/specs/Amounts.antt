@@ -8,6 +8,7 @@ use Rattle.stock.specs.Tables.{units_of_key}
 use Rattle.booking.specs.declared.entry.Entry.{Entry}
 use Rattle.booking.specs.declared.entry.EntryKind.{EntryKind}
 use Rattle.booking.specs.declared.entry.EntryKind.TheVariants.{PlainAmount, Unfilled, Filled, Bought, Drew}
+use Rattle.booking.specs.Limits.{most_commodities, most_accounts}
 use Rattle.books.specs.States.{Books}
 use Rattle.books.specs.Holdings.{plain_balance}
 
@@ -59,11 +60,11 @@ lot_at_cost c r = cond (r.key.cost.commodity == c) (r.units * r.key.cost.number)
 
 -- Books balance: of each commodity, 100 times the sum of all plain balances and the open lots at cost come to 0.
 abbrev pub BooksBalance : Books → Type 0
-BooksBalance b = (c : ℕ) → 1 ≤ c → c ≤ 16 → pos 100 *ℤ balances_to 64 c b +ℤ pos (sum_of (lot_at_cost c) b.table.lots) ≡ pos 0
+BooksBalance b = (c : ℕ) → 1 ≤ c → c ≤ most_commodities → pos 100 *ℤ balances_to most_accounts c b +ℤ pos (sum_of (lot_at_cost c) b.table.lots) ≡ pos 0
 
 -- A plain balance is what was settled in that account and commodity.
 abbrev pub BalancesAreSettled : List Entry → Books → Type 0
-BalancesAreSettled es b = (a c : ℕ) → 1 ≤ a → a ≤ 64 → 1 ≤ c → c ≤ 16 → plain_balance b a c ≡ amount_settled a c es
+BalancesAreSettled es b = (a c : ℕ) → 1 ≤ a → a ≤ most_accounts → 1 ≤ c → c ≤ most_commodities → plain_balance b a c ≡ amount_settled a c es
 
 -- Of each key, the units held are the units brought less the units drawn.
 abbrev pub UnitsAreSettled : List Entry → List LotRow → Type 0

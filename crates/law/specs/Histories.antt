@@ -17,7 +17,7 @@ use Rattle.booking.specs.Rows.{rows_of}
 use Rattle.books.specs.declared.outcome.Outcome.{Outcome}
 use Rattle.books.specs.declared.outcome.Outcome.TheVariants.{Declared, Opened, Begun, Settled, Done, Refused}
 use Rattle.booking.specs.declared.draft.Draft.{Draft}
-use Rattle.books.specs.States.{Names}
+use Rattle.books.specs.States.{Names, no_names}
 use Rattle.books.specs.Calls.{Call, declaring, opening, asserting, closing, beginning, posting, settling, tearing, writing_header}
 use Rattle.books.specs.Lookups.{open_account, number_or_0}
 use Rattle.books.specs.Changes.{posting_of, new_draft, with_posting, lots_after_draft, settled_entries, with_commodity, with_account, with_account_closed}
@@ -38,7 +38,7 @@ pub record History : Type 0 where
   pub settlements : List Settlement
 
 abbrev pub no_history : History
-no_history = record { names = record { commodities = []; accounts = [] }; draft = None; table = no_lots; opened = []; settlements = [] }
+no_history = record { names = no_names; draft = None; table = no_lots; opened = []; settlements = [] }
 
 abbrev pub accepted : Outcome → Bool
 accepted (Declared number) = true

@@ -4,26 +4,19 @@ use Rattle.std.specs.Result.{result_map_both, IsErrAnd}
 use Rattle.refusal.specs.declared.Refusal.{Refusal}
 use Rattle.refusal.specs.declared.Fault.{Fault}
 use Rattle.refusal.specs.Faults.{fault_at}
+use Rattle.refusal.specs.Refusing.{first_met, unless}
 use Rattle.lots.specs.Orders.{Order}
-use Rattle.booking.specs.Balances.{first_met}
 use Rattle.booking.specs.Booking.{at_line}
-use Rattle.booking.specs.Stages.{unless}
 use Rattle.books.specs.declared.outcome.Outcome.{Outcome}
 use Rattle.books.specs.States.{State}
-use Rattle.books.specs.Calls.{Call, opening}
+use Rattle.books.specs.Calls.{Call}
 use Rattle.books.specs.Refusals.{tests_at, refusal, first_fault_met}
 use Rattle.books.specs.Changes.{change, reply}
 use Rattle.books.specs.Steps.{answered, step, AnswersFirst}
 use Rattle.books.proofs.Firsts.{answers_first_met}
 use Rattle.books.proofs.Nested.{first_at}
 use Rattle.ledger.specs.Answers.{carried_out, outcome_of}
-use Rattle.ledger.specs.CallTables.{opening_tests}
 use Rattle.ledger.specs.Kept.{Kept, in_state}
-
--- an opening's table, whether or not it names an own commodity
-pub opening_table : (o : Order) (s : State) (source date : ℕ) (name : List ℕ) (own : Option (List ℕ)) → refusal o s (opening source date name own) ≡ first_fault_met (tests_at source (opening_tests s date name own))
-opening_table o s source date name None = refl
-opening_table o s source date name (Some c) = refl
 
 module _ {P : Type 0} (order : P → Order) (l : Kept P) (c : Call) (line : ℕ) (ts : List (Refusal × Bool)) (table : refusal (order l.policy) l.state c ≡ first_fault_met (tests_at line ts)) where
   -- what the call answers and leaves if it meets this refusal, or none

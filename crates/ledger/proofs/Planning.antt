@@ -6,6 +6,7 @@ use Rattle.refusal.specs.declared.Refusal.{Refusal}
 use Rattle.refusal.specs.declared.Refusal.TheVariants.{NoSuchDraft}
 use Rattle.refusal.specs.declared.Fault.{Fault}
 use Rattle.refusal.specs.Faults.{fault_at}
+use Rattle.refusal.specs.Refusing.{first_met, unless}
 use Rattle.lots.specs.Orders.{Order}
 use Rattle.stock.specs.Promises.{map_ok}
 use Rattle.stock.specs.Tables.{Table}
@@ -13,9 +14,8 @@ use Rattle.booking.specs.declared.draft.Draft.{Draft}
 use Rattle.booking.specs.declared.entry.Entry.{Entry}
 use Rattle.booking.specs.declared.entry.Transaction.{Transaction}
 use Rattle.booking.specs.declared.posting.Posting.{Posting}
-use Rattle.booking.specs.Balances.{first_met}
 use Rattle.booking.specs.Booking.{table_after, first_fault}
-use Rattle.booking.specs.Stages.{unless, book_draft}
+use Rattle.booking.specs.Stages.{book_draft}
 use Rattle.books.specs.States.{State}
 use Rattle.books.specs.Conditions.{no_such_draft}
 use Rattle.books.specs.Refusals.{draft_entries, draft_tests, first_fault_met}

@@ -1,8 +1,7 @@
 -- Tests in turn: those behind count where none before is met.
 use Rattle.std.proofs.Common.{◌≡◌, Bool, true, false, List, [], ◌∷◌, ◌++◌, Ok, Err, refl}
 use Rattle.refusal.specs.declared.Refusal.{Refusal}
-use Rattle.booking.specs.Balances.{first_met}
-use Rattle.booking.specs.Stages.{unless}
+use Rattle.refusal.specs.Refusing.{first_met, unless}
 
 pub refused_before : {X Y : Type 0} (ts us : List (Refusal × Bool)) (r : Refusal) (x : X) (y : Y) → Err r ≡ unless (first_met ts) x → unless (first_met (ts ++ us)) y ≡ Err r
 refused_before [] us r x y e = cc

@@ -4,12 +4,12 @@ use Rattle.record.specs.Layout.{room_for}
 use Rattle.std.proofs.lemmas.Grind.{common_steps}
 use Rattle.std.specs.Result.{IsErrAnd, OnOk}
 use Rattle.refusal.specs.declared.Refusal.{Refusal}
+use Rattle.refusal.specs.Refusing.{first_met, unless}
 use Rattle.stock.specs.Promises.{map_ok}
 use Rattle.booking.specs.declared.draft.Draft.{Draft}
 use Rattle.booking.specs.declared.entry.Entry.{Entry}
 use Rattle.booking.specs.declared.posting.Posting.{Posting}
-use Rattle.booking.specs.Balances.{first_met, weighing_tests}
-use Rattle.booking.specs.Stages.{unless}
+use Rattle.booking.specs.Balances.{weighing_tests}
 use Rattle.booking.specs.Weighing.{blank_account, complete}
 use Rattle.books.specs.Lookups.{own_of}
 use Rattle.books.specs.Refusals.{record_tests}

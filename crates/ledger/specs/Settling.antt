@@ -1,20 +1,20 @@
 -- What a draft comes to before anything is changed, and what carrying that out leaves.
-use Rattle.std.specs.Prelude.{◌≡◌, ℕ, ◌+◌, ◌≤◌, true, List, length, None, Ok, Option, Result}
+use Rattle.std.specs.Prelude.{◌≡◌, ℕ, ◌+◌, ◌≤◌, true, List, length, Ok, Option, Result}
 use Rattle.std.specs.Option.{option_map}
 use Rattle.refusal.specs.declared.Refusal.{Refusal}
 use Rattle.refusal.specs.declared.Fault.{Fault}
+use Rattle.refusal.specs.Refusing.{first_met, unless}
 use Rattle.lots.specs.Orders.{Order}
 use Rattle.record.specs.Layout.{room_for}
 use Rattle.booking.specs.declared.draft.Draft.{Draft}
 use Rattle.booking.specs.declared.entry.Entry.{Entry}
 use Rattle.booking.specs.declared.entry.Transaction.{Transaction}
 use Rattle.stock.specs.Tables.{Table}
-use Rattle.booking.specs.Balances.{first_met, balances_after, all_within}
-use Rattle.booking.specs.Stages.{unless}
+use Rattle.booking.specs.Balances.{balances_after, all_within}
 use Rattle.booking.specs.Weighing.{complete}
 use Rattle.books.specs.Calls.{settling}
-use Rattle.books.specs.States.{State}
-use Rattle.books.specs.Changes.{lots_after_draft, settled_entries}
+use Rattle.books.specs.States.{State, next_number}
+use Rattle.books.specs.Changes.{lots_after_draft, settled_entries, with_transaction}
 use Rattle.books.specs.Recording.{transaction_of}
 use Rattle.books.specs.Refusals.{first_fault_met, whole_draft_tests, draft_tests, refusal}
 
@@ -31,7 +31,7 @@ abbrev pub plan : Transaction → Table × List Entry → Plan
 plan t booked = record { transaction = t; booked = booked }
 
 abbrev pub plan_of : Order → State → Draft → Plan
-plan_of o s d = plan (transaction_of (s.transactions + 1) d) (lots_after_draft o s.books.table d, settled_entries o s.books.table d)
+plan_of o s d = plan (transaction_of (next_number s) d) (lots_after_draft o s.books.table d, settled_entries o s.books.table d)
 
 -- unless the draft meets a refusal
 abbrev pub planned : Order → State → ℕ → Draft → Result Plan Fault
@@ -51,12 +51,4 @@ pub record CanBeDone (s : State) (lent : ℕ) (p : Plan) : Type 0 where
 
 -- what a plan leaves
 abbrev pub after_plan : State → Plan → State
-after_plan s p = record {
-  names = s.names;
-  books = record { balances = balances_after s.books.balances p.booked.1; table = p.booked.0 };
-  draft = None;
-  last_date = p.transaction.date;
-  last_rank = 2;
-  transactions = s.transactions + 1;
-  rows = s.rows + length p.booked.1;
-}
+after_plan s p = with_transaction s p.transaction.date p.booked.0 p.booked.1

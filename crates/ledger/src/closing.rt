@@ -1,15 +1,14 @@
 // Asserting balances and closing accounts.
 ghost use Rattle.std.specs.Prelude.{◌≡◌, not, ◌-ℤ◌, if◌then◌else◌, Some, None};
-ghost use Rattle.booking.specs.Balances.{first_met};
-ghost use Rattle.booking.specs.Stages.{unless};
+ghost use Rattle.refusal.specs.Refusing.{first_met, unless};
 ghost use Rattle.booking.specs.Weighing.{is_zero};
 ghost use Rattle.books.specs.Calls.{asserting, closing};
 ghost use Rattle.books.specs.Changes.{with_names, with_account_closed};
 ghost use Rattle.books.specs.Holdings.{holdings_under};
 ghost use Rattle.books.specs.Lookups.{any_under, open_account, number_or_0};
-ghost use Rattle.ledger.specs.CallTables.{asserting_tests, closing_tests};
 ghost use Rattle.ledger.specs.Answers.{carried_out};
 ghost use Rattle.books.specs.declared.outcome.Outcome.TheVariants.{Done};
+ghost use Rattle.books.specs.Refusals.{asserting_tests, closing_tests};
 ghost use Rattle.ledger.specs.Answers.{outcome_of};
 ghost use Rattle.ledger.specs.Kept.{in_state};
 

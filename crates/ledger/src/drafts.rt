@@ -1,12 +1,11 @@
 // Beginning and tearing a draft.
 ghost use Rattle.std.specs.Prelude.{◌≡◌, ◌+◌, Some};
-ghost use Rattle.booking.specs.Balances.{first_met};
-ghost use Rattle.booking.specs.Stages.{unless};
+ghost use Rattle.refusal.specs.Refusing.{first_met, unless};
 ghost use Rattle.books.specs.Calls.{beginning, tearing};
-ghost use Rattle.ledger.specs.CallTables.{beginning_tests};
 ghost use Rattle.books.specs.Changes.{new_draft, with_draft};
 ghost use Rattle.ledger.specs.Answers.{carried_out};
 ghost use Rattle.books.specs.declared.outcome.Outcome.TheVariants.{Begun, Done};
+ghost use Rattle.books.specs.Refusals.{beginning_tests};
 ghost use Rattle.ledger.specs.Answers.{outcome_of, outcome_with_slip, GivesBack};
 ghost use Rattle.ledger.specs.Kept.{in_state};
 

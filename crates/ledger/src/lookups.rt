@@ -1,9 +1,8 @@
 // What several calls look up: the draft of a slip, a declared commodity, an account that is open.
 ghost use Rattle.std.specs.Prelude.{◌≡◌, ◌∷◌, [], Some};
 ghost use Rattle.stock.specs.Promises.{map_ok};
-ghost use Rattle.booking.specs.Balances.{first_met};
-ghost use Rattle.booking.specs.Stages.{unless};
 ghost use Rattle.refusal.specs.declared.Refusal.TheVariants.{NoSuchDraft, CommodityNotDeclared, AccountNotOpen};
+ghost use Rattle.refusal.specs.Refusing.{first_met, unless};
 ghost use Rattle.books.specs.Checks.{Checks, Finds};
 ghost use Rattle.books.specs.Conditions.{no_such_draft, not_declared, not_open};
 ghost use Rattle.books.specs.Lookups.{commodity_number, open_account, number_or_0};

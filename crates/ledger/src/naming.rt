@@ -2,18 +2,16 @@
 ghost use Rattle.std.specs.Prelude.{◌≡◌, ◌+◌, true, false, length, OnOk};
 ghost use Rattle.std.specs.Option.{option_map};
 ghost use Rattle.refusal.specs.declared.Refusal.TheVariants.{BadCommodityName, CommodityNotDeclared};
+ghost use Rattle.refusal.specs.Refusing.{first_met, unless};
 ghost use Rattle.books.specs.Checks.{Checks, Finds};
 ghost use Rattle.books.specs.Lookups.{commodity_number, number_or_0};
 ghost use Rattle.values.specs.Names.{is_commodity_name, is_account_name};
 ghost use Rattle.books.specs.Conditions.{bad_commodity_name, not_declared, commodities_full, accounts_full};
-ghost use Rattle.booking.specs.Balances.{first_met};
-ghost use Rattle.booking.specs.Stages.{unless};
-ghost use Rattle.chart.specs.Changes.{account_added};
-ghost use Rattle.books.specs.Changes.{with_names, with_commodity};
+ghost use Rattle.books.specs.Changes.{with_names, with_commodity, account_added};
 ghost use Rattle.books.specs.Calls.{declaring, opening};
-ghost use Rattle.ledger.specs.CallTables.{given_and, declaring_tests, opening_tests};
 ghost use Rattle.ledger.specs.Answers.{carried_out};
 ghost use Rattle.books.specs.declared.outcome.Outcome.TheVariants.{Declared, Opened};
+ghost use Rattle.books.specs.Refusals.{given_and, declaring_tests, opening_tests};
 ghost use Rattle.ledger.specs.Answers.{outcome_of};
 ghost use Rattle.ledger.specs.Kept.{in_state};
 
@@ -110,7 +108,7 @@ impl<P: Policy> Ledger<P> {
         requires name { is_account_name name.now ≡ true }
         requires room { accounts_full self.old.state.names ≡ false }
         ensures number { result ≡ length self.old.state.names.accounts + 1 }
-        ensures named { self.new ≡ in_state self.old (with_names self.old.state (account_added name.now own self.old.state.names) date 0) }
+        ensures named { self.new ≡ in_state self.old (with_names self.old.state (account_added self.old.state.names name.now own) date 0) }
     {
         let number = self.chart.open(name, own);
         self.accept(date, Rank::Naming);

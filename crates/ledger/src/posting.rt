@@ -2,22 +2,22 @@
 ghost use Rattle.std.specs.Prelude.{◌≡◌, ◌≤◌, ◌∷◌, [], not, true, is_some, Some, None, IfOk, IfSome, OnOk};
 ghost use Rattle.std.specs.Option.{option_map, option_and_then};
 ghost use Rattle.refusal.specs.declared.Refusal.TheVariants.{NotTheOwnCommodity, TooManyPostings, SecondBlank, BracesWithoutUse};
+ghost use Rattle.refusal.specs.Refusing.{first_met, unless};
+ghost use Rattle.values.specs.Amounts.{is_amount};
 ghost use Rattle.lots.specs.Rows.{most};
-ghost use Rattle.booking.specs.Balances.{first_met};
-ghost use Rattle.booking.specs.Weighing.{is_amount, own_agrees};
-ghost use Rattle.booking.specs.Stages.{unless};
+ghost use Rattle.booking.specs.Weighing.{own_agrees};
 ghost use Rattle.booking.specs.Ranges.{posting_kind_in_range, posting_in_range};
 ghost use Rattle.books.specs.Checks.{Checks};
 ghost use Rattle.books.specs.Conditions.{too_many_postings, is_blank, holds_a_blank, braces_without_use};
 ghost use Rattle.books.specs.Given.{given_cost, given_braces, given_amount};
 ghost use Rattle.books.specs.Lookups.{own_of};
-ghost use Rattle.books.specs.Changes.{cost_of, posting_of, with_posting, with_draft};
-ghost use Rattle.books.specs.Refusals.{if_given, cost_not_declared, drafted, blank_tests, amount_tests, posting_tests};
+ghost use Rattle.books.specs.Changes.{cost_of, posting_to, posting_of, with_posting, with_draft};
+ghost use Rattle.books.specs.Refusals.{if_given, cost_not_declared, drafted, blank_tests, account_tests, commodity_tests, amount_tests, posting_tests};
 ghost use Rattle.books.specs.Calls.{posting};
 ghost use Rattle.books.specs.declared.outcome.Outcome.TheVariants.{Done};
 ghost use Rattle.ledger.specs.Answers.{carried_out, outcome_of};
 ghost use Rattle.ledger.specs.Kept.{in_state};
-ghost use Rattle.ledger.specs.Posting.{kind_given, posting_to, account_tests, commodity_tests, HasPlace};
+ghost use Rattle.ledger.specs.Posting.{kind_given, HasPlace};
 
 use crate::Ledger;
 use crate::fault::reported;

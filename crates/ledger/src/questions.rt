@@ -1,8 +1,9 @@
 // What can be asked of a ledger. Questions change nothing and never show a draft.
 ghost use Rattle.std.specs.Prelude.{◌≡◌, ◌≤◌, length, not};
+ghost use Rattle.refusal.specs.Refusing.{unless};
 ghost use Rattle.books.specs.Conditions.{nothing_there};
 ghost use Rattle.books.specs.Refusals.{first_fault_met};
-ghost use Rattle.books.specs.Questions.{answer_unless, question_tests, holding_of, plain_balance_of, counts_of, lot_of};
+ghost use Rattle.books.specs.Questions.{question_tests, holding_of, plain_balance_of, counts_of, lot_of};
 
 use crate::Ledger;
 use crate::fault::reported;
@@ -24,7 +25,7 @@ impl<P: Policy> Ledger<P> {
     }
 
     fn check_there(&self, account: u16, commodity: u8) -> Result<(), Fault>
-        ensures { result ≡ answer_unless (first_fault_met (question_tests self.now.state account commodity)) tt }
+        ensures { result ≡ unless (first_fault_met (question_tests self.now.state account commodity)) tt }
     {
         let there = refuse_unless(self.has(account, commodity), Refusal::NothingThere);
         reported(0, there)

@@ -15,7 +15,7 @@ use Rattle.fields.specs.Denotes.{sign, point, Denotes, WritesDate}
 use Rattle.fields.specs.Numbers.{number_at, has_minus}
 use Rattle.fields.specs.Results.{bind, and_then}
 use Rattle.fields.specs.Spots.{Spot, commodity_at}
-use Rattle.lines.specs.Braces.{before_separator, is_word, Words, gap_end, two_words, Shape, no_part, cost_part, date_part, both_parts, word_at, part_after, part_before, two_parts, one_part, shape, cost_in, date_in, inside_by, inside}
+use Rattle.lines.specs.Braces.{before_separator, is_word, Words, gap_end, two_words, Shape, no_part, cost_part, date_part, both_parts, word_at, part_after, part_before, two_parts, one_part, shape, cost_in, date_in, inside_by, inside, parts_cut, shape_by}
 use Rattle.lines.specs.Cuts.{missing}
 use Rattle.lines.specs.Grammar.{Spaces, Word, CostForm, BracesForm}
 use Rattle.lines.specs.Said.{CostSaid, BracesSaid, empty, cost, date, cost_and_date}
@@ -297,7 +297,7 @@ single_sound brace s b e =
         let a = from_and_then (λ (f : LineFault). f) (cost_in brace w) (λ (c : CostSaid). Ok (cost c)) b g in
         subst (BracesForm s.place s.text) (same_ok a.2) (cost_sound brace s w a.0 (two_words_sound s w f) a.1)
 
-double_sound : (brace : ℕ) (s : Spot) (b : BracesSaid) → before_separator s.text < length s.text → inside_by brace (two_parts s (before_separator s.text)) ≡ Ok b → BracesForm s.place s.text b
+double_sound : (brace : ℕ) (s : Spot) (b : BracesSaid) → before_separator s.text < length s.text → inside_by brace (two_parts (part_before (before_separator s.text) s, part_after (before_separator s.text + 2) s)) ≡ Ok b → BracesForm s.place s.text b
 unfolding two_parts
 double_sound brace s b l e = words (two_words first) refl e
   where
@@ -339,14 +339,14 @@ inside_sound brace s b e =
     let g = sym (ap (inside_by brace) (cond-false _ (Some no_part) parts m)) ∙ e in
     ⊎_elim
     (λ (y : ltb (before_separator s.text) (length s.text) ≡ true).
-    double_sound brace s b (ltb-true _ _ y) (sym (ap (inside_by brace) (cond-true _ (two_parts s (before_separator s.text)) (one_part s) y)) ∙ g))
+    double_sound brace s b (ltb-true _ _ y) (sym (ap (λ cut. inside_by brace (shape_by s cut)) (cond-true _ (Some (part_before (before_separator s.text) s, part_after (before_separator s.text + 2) s)) None y)) ∙ g))
     (λ (n : ltb (before_separator s.text) (length s.text) ≡ false).
-    single_sound brace s b (sym (ap (inside_by brace) (cond-false _ (two_parts s (before_separator s.text)) (one_part s) n)) ∙ g))
+    single_sound brace s b (sym (ap (λ cut. inside_by brace (shape_by s cut)) (cond-false _ (Some (part_before (before_separator s.text) s, part_after (before_separator s.text + 2) s)) None n)) ∙ g))
     (cases_Bool (ltb (before_separator s.text) (length s.text))))
     (cases_Bool (missing s))
   where
     parts : Option Shape
-    parts = cond (ltb (before_separator s.text) (length s.text)) (two_parts s (before_separator s.text)) (one_part s)
+    parts = shape_by s (parts_cut s)
 
 -- one part: a date or a cost
 shape_single : (s : Spot) → 1 ≤ length s.text → AllByRecursion (λ b. b ≡ 44 → ⊥) s.text → shape s ≡ one_part s

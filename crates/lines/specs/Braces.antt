@@ -63,18 +63,20 @@ parts_cut s =
     (Some (part_before (before_separator s.text) s, part_after (before_separator s.text + 2) s))
     None
 
--- a cost, then a comma and a space, then a date
-unfoldable pub two_parts : Spot → ℕ → Option Shape
-two_parts s n = bind (two_words (part_before n s)) (λ w. option_map (λ d. both_parts w d) (word_at (part_after (n + 2) s)))
+-- a cost, and behind the comma and the space a date
+unfoldable pub two_parts : Spot × Spot → Option Shape
+two_parts parts = bind (two_words parts.0) (λ w. option_map (λ d. both_parts w d) (word_at parts.1))
 
 -- a part with a space in it is a cost, any other a date
 unfoldable pub one_part : Spot → Option Shape
 one_part s = cond (is_word s.text) (Some (date_part s)) (option_map cost_part (two_words s))
 
+abbrev pub shape_by : Spot → Option (Spot × Spot) → Option Shape
+shape_by s None = one_part s
+shape_by s (Some parts) = two_parts parts
+
 unfoldable pub shape : Spot → Option Shape
-shape s =
-    cond (missing s) (Some no_part)
-    (cond (nat_lt (before_separator s.text) (length s.text)) (two_parts s (before_separator s.text)) (one_part s))
+shape s = cond (missing s) (Some no_part) (shape_by s (parts_cut s))
 
 -- a cost has no minus; its number is read first
 unfoldable pub cost_in : ℕ → Words → Result CostSaid LineFault

@@ -8,13 +8,13 @@ use Rattle.lines.specs.Said.{Said, posting}
 use Rattle.books.specs.declared.outcome.Outcome.{Outcome}
 use Rattle.books.specs.Calls as call
 use Rattle.books.specs.Calls.{Call, AmountGiven}
-use Rattle.books.specs.States.{State}
+use Rattle.books.specs.States.{State, next_number}
 use Rattle.books.specs.Refusals.{refusal}
 use Rattle.books.specs.Recording.{record_answered, record_after_call, record_after_calls}
 use Rattle.books.specs.Steps.{step}
 use Rattle.law.specs.Histories.{accepted}
 use Rattle.reader.specs.Asked.{units_given}
-use Rattle.reader.specs.Turns.{slip_number, or_torn, posting_turn}
+use Rattle.reader.specs.Turns.{or_torn, posting_turn}
 
 torn : (o : Order) (s : State) (slip : ℕ) (book : List ℕ) → record_after_call o s (call.tearing slip) book ≡ book
 torn o s slip book = by (refusal o s (call.tearing slip))
@@ -33,13 +33,13 @@ posted o s slip source account amount book = by (refusal o s (call.posting slip 
 -- a call that writes nothing, and a tearing if it is refused
 torn_or_not : (o : Order) (s : State) (c : Call) (x : Outcome) (book : List ℕ) → record_after_call o s c book ≡ book → record_after_calls o s (or_torn s c x) book ≡ book
 torn_or_not o s c x book e =
-    cond_both (accepted x) (c ∷ []) (c ∷ call.tearing (slip_number s) ∷ []) (λ cs. record_after_calls o s cs book ≡ book)
+    cond_both (accepted x) (c ∷ []) (c ∷ call.tearing (next_number s) ∷ []) (λ cs. record_after_calls o s cs book ≡ book)
     (λ _. e)
-    (λ _. torn o (step o s c).1 (slip_number s) (record_after_call o s c book) ∙ e)
+    (λ _. torn o (step o s c).1 (next_number s) (record_after_call o s c book) ∙ e)
 
 pub posting_writes_nothing : (o : Order) (s : State) (number : ℕ) (r : Result (Option Said) Fault) (book : List ℕ) → record_after_calls o s (posting_turn o s number r).calls book ≡ book
-posting_writes_nothing o s number (Err f) book = torn o s (slip_number s) book
+posting_writes_nothing o s number (Err f) book = torn o s (next_number s) book
 posting_writes_nothing o s number (Ok (Some (posting p))) book =
-    let c = call.posting (slip_number s) number p.account.text (option_map units_given p.units) in
-    torn_or_not o s c (step o s c).0 book (posted o s (slip_number s) number p.account.text (option_map units_given p.units) book)
+    let c = call.posting (next_number s) number p.account.text (option_map units_given p.units) in
+    torn_or_not o s c (step o s c).0 book (posted o s (next_number s) number p.account.text (option_map units_given p.units) book)
 posting_writes_nothing o s number (Ok other) book = refl

@@ -4,9 +4,9 @@ use Rattle.std.proofs.lemmas.List.{length-take-le, length-drop, length-append, t
 use Rattle.record.specs.declared.header.Header.{Header}
 use Rattle.record.specs.declared.rows.Row.{Row}
 use Rattle.record.specs.Layout.{header_length, row_length, most_rows, first_free, rows_bytes, header_bytes, header_after, record_after}
-use Rattle.record.specs.Promises.{Appended, Headed, AllSized, SizedHeader}
+use Rattle.record.specs.Promises.{Appended, Headed, AllSized}
 use Rattle.record.proofs.Written.{rows_bytes_length}
-use Rattle.record.proofs.Reading.{header_reads, rows_read}
+use Rattle.record.proofs.Reading.{header_reads, rows_read, SizedHeader}
 
 -- the part of n bytes at an offset, and what stands behind it
 part : (at n : ℕ) (d : List ℕ) → drop at d ≡ take n (drop at d) ++ drop (at + n) d

@@ -8,8 +8,14 @@ use Rattle.std.proofs.lemmas.Grind.{flat_map-append}
 use Rattle.record.specs.declared.header.Header.{Header}
 use Rattle.record.specs.declared.rows.Row.{Row}
 use Rattle.record.specs.Layout.{first_free, most_rows, le2, le4, row_bytes, rows_bytes, header_bytes}
-use Rattle.record.specs.Promises.{from_le, number_at, HeaderReads, RowReads, RowsRead, Sized, AllSized, SizedHeader}
+use Rattle.record.specs.Promises.{from_le, number_at, HeaderReads, RowReads, RowsRead, Sized, AllSized}
 use Rattle.record.proofs.Written.{rows_bytes_length}
+
+-- a header's numbers keep to the widths of their types
+pub record SizedHeader (h : Header) : Type 0 where
+  pub policy : h.policy < 2 ^ 16
+  pub transactions : h.transactions < 2 ^ 32
+  pub next : h.next < 2 ^ 32
 
 le2_read : (n : ℕ) → n < 2 ^ 16 → from_le (le2 n) ≡ n
 le2_read n h = omega arith

@@ -66,11 +66,6 @@ pub record Sized (r : Row) : Type 0 where
 abbrev pub AllSized : List Row → Type 0
 AllSized rows = (before : List Row) (r : Row) (behind : List Row) → rows ≡ before ++ (r ∷ behind) → Sized r
 
-pub record SizedHeader (h : Header) : Type 0 where
-  pub policy : h.policy < 2 ^ 16
-  pub transactions : h.transactions < 2 ^ 32
-  pub next : h.next < 2 ^ 32
-
 -- What a host finds after rows were appended. Part by part: the header, the rows written before as they were,
 -- the new rows in order, and all bytes behind them as they were; and the header and each new row as they are read
 pub record Appended (written : ℕ) (rows : List Row) (h : Header) (before after : List ℕ) : Type 0 where
@@ -96,10 +91,6 @@ pub record Headed (written : ℕ) (h : Header) (before after : List ℕ) : Type 
   pub is : after ≡ header_bytes written h ++ rest
   pub same_length : length after ≡ length before
   pub header_reads : HeaderReads after written h
-
-abbrev pub WhenOk : {T E : Type 0} → Result T E → Type 0 → Type 0
-WhenOk (Ok _) P = P
-WhenOk (Err _) P = Unit {0}
 
 -- the answer by number, as a user sees it: 31 where the record is too short, 32 where it is not and the rows are too many
 abbrev pub Room : ℕ → ℕ → Result (Unit {0}) Refusal → Type 0

@@ -2,9 +2,9 @@
 // Parameters call the record `book`, since `record` is a word of the contracts' language. No call reads what it holds.
 #![tactic(auto)]
 
-ghost use Rattle.std.specs.Prelude.{◌≡◌, ◌+◌, length};
+ghost use Rattle.std.specs.Prelude.{◌≡◌, ◌+◌, length, OnOk};
 ghost use Rattle.record.specs.Layout.{room_for, header_after, record_after, if_ok};
-ghost use Rattle.record.specs.Promises.{Appended, Headed, Room, WhenOk};
+ghost use Rattle.record.specs.Promises.{Appended, Headed, Room};
 
 mod fields;
 pub mod header;
@@ -49,7 +49,7 @@ pub fn append_rows(
 ) -> Result<(), Refusal>
     ensures answer { result ≡ room_for (length book.old) (written + length rows.now) }
     ensures bytes { book.new ≡ if_ok result (record_after written rows.now header book.old) book.old }
-    ensures appended { WhenOk result (Appended written rows.now header book.old book.new) }
+    ensures appended { OnOk result (Appended written rows.now header book.old book.new) }
 {
     let all = written as usize + rows.len();
     room_for(book.len(), all)?;
@@ -64,7 +64,7 @@ pub fn append_rows(
 pub fn write_header(book: &mut [u8], written: u32, header: Header) -> Result<(), Refusal>
     ensures answer { result ≡ room_for (length book.old) written }
     ensures bytes { book.new ≡ if_ok result (header_after written header book.old) book.old }
-    ensures headed { WhenOk result (Headed written header book.old book.new) }
+    ensures headed { OnOk result (Headed written header book.old book.new) }
 {
     room_for(book.len(), written as usize)?;
     put_header(book, written as u16, header);

@@ -25,7 +25,7 @@ some_units lots all = All-weaker (λ r. in_range r ≡ true) (λ r. 1 ≤ r.unit
 -- a lot is gone
 pub kept_without : (ys : List LotRow) (x : LotRow) (zs : List LotRow) (next : ℕ) → WellKept (record { lots = ys ++ x ∷ zs; next = next }) → WellKept (record { lots = ys ++ zs; next = next })
 kept_without ys x zs next w = record {
-  at_most_256 = omega (arith, length_split ys x zs, w.at_most_256);
+  at_most = omega (arith, length_split ys x zs, w.at_most);
   ranges = all_without (λ r. in_range r ≡ true) ys x zs w.ranges;
   from_one = w.from_one;
   serials_given = all_without (λ r. (1 ≤ r.serial) × (r.serial < next)) ys x zs w.serials_given;
@@ -36,7 +36,7 @@ kept_without ys x zs next w = record {
 -- a lot has other units
 pub kept_replaced : (ys : List LotRow) (x : LotRow) (n : ℕ) (zs : List LotRow) (next : ℕ) → in_range (with_units x n) ≡ true → WellKept (record { lots = ys ++ x ∷ zs; next = next }) → WellKept (record { lots = ys ++ with_units x n ∷ zs; next = next })
 kept_replaced ys x n zs next good w = record {
-  at_most_256 = omega (arith, length_split ys x zs, length_split ys (with_units x n) zs, w.at_most_256);
+  at_most = omega (arith, length_split ys x zs, length_split ys (with_units x n) zs, w.at_most);
   ranges = all_replaced (λ r. in_range r ≡ true) ys x (with_units x n) zs good w.ranges;
   from_one = w.from_one;
   serials_given = all_replaced (λ r. (1 ≤ r.serial) × (r.serial < next)) ys x (with_units x n) zs (all_here (λ r. (1 ≤ r.serial) × (r.serial < next)) ys x zs w.serials_given) w.serials_given;
@@ -49,7 +49,7 @@ pub kept_pushed : (lots : List LotRow) (x : LotRow) → length lots < 256 → in
 kept_pushed lots x room good others w =
     let low = w.from_one in
     record {
-      at_most_256 = omega (arith, length_push lots x);
+      at_most = omega (arith, length_push lots x);
       ranges = All-push (λ r. in_range r ≡ true) lots x w.ranges good;
       from_one = omega arith;
       serials_given = All-push (λ r. (1 ≤ r.serial) × (r.serial < x.serial + 1)) lots x (All-weaker (λ r. (1 ≤ r.serial) × (r.serial < x.serial)) (λ r. (1 ≤ r.serial) × (r.serial < x.serial + 1)) (λ r g. let l = g.1 in (g.0, omega arith)) lots w.serials_given) (low, omega arith);

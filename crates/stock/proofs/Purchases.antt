@@ -1,10 +1,11 @@
 -- A purchase by the place of its lot is the purchase that the table defines.
-use Rattle.std.proofs.Common.{◌≡◌, ℕ, suc, ◌+◌, ◌<◌, ◌≤◌, true, false, cond, ◌||◌, leb, List, [], ◌∷◌, ◌++◌, length, get_or, take, drop, set, Some, None, Option, Result, sym, refl, ap, ◌∙◌, subst, ⊎_elim, arith}
+use Rattle.std.proofs.Common.{◌≡◌, ℕ, suc, ◌+◌, ◌<◌, ◌≤◌, true, false, cond, ◌||◌, leb, ltb, List, [], ◌∷◌, ◌++◌, length, get_or, take, drop, set, Some, None, Ok, Err, Option, Result, sym, refl, ap, ◌∙◌, subst, ⊎_elim, arith}
 use Rattle.std.specs.List.{AllByRecursion}
 use Rattle.std.proofs.ByRecursion.{All-from_get_or, All-weaker}
 use Rattle.std.proofs.lemmas.Bool.{cond-true, or_left, le-leb, cases_lt}
 use Rattle.std.proofs.lemmas.Bool.Decides.{nat_tests}
 use Rattle.refusal.specs.declared.Refusal.{Refusal}
+use Rattle.refusal.specs.declared.Refusal.TheVariants.{LotTooLarge}
 use Rattle.lots.specs.declared.rows.Key.{Key}
 use Rattle.lots.specs.declared.rows.LotRow.{LotRow}
 use Rattle.lots.specs.Rows.{most, same_key, no_lot, with_more}
@@ -14,9 +15,15 @@ use Rattle.matching.proofs.Steps.{sum_of_split}
 use Rattle.matching.proofs.Splits.{split_at, set_at, pairs_others}
 use Rattle.stock.specs.Tables.{Table, last_serial, answered, of_key, is_open, units_of_key, add_units, serial_for, purchased, purchased_late, purchase_refusal, table_after_purchase}
 use Rattle.stock.specs.Promises.{BringsUnits}
-use Rattle.stock.specs.Places.{OpenAt, grown_at, opened}
+use Rattle.stock.specs.Places.{OpenAt, opened}
 use Rattle.stock.specs.Kept.{WellKept, KeysDiffer}
 use Rattle.stock.proofs.Keeping.{key_same, key_itself}
+
+-- n units more for the lot at place i
+abbrev pub grown_at : ℕ → ℕ → Table → Result ℕ Refusal × Table
+grown_at i n t =
+    cond (ltb most ((get_or t.lots i no_lot).units + n)) (Err LotTooLarge, t)
+    (Ok (get_or t.lots i no_lot).serial, record { lots = set t.lots i (with_more (get_or t.lots i no_lot) n); next = t.next })
 
 -- no lot of the key
 abbrev Other : Key → LotRow → Type 0

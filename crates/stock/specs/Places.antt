@@ -1,30 +1,24 @@
 -- Lots by their places: the open lot of a key, and what a purchase or a draw does at a place.
-use Rattle.std.specs.Prelude.{◌≡◌, ℕ, ◌+◌, ◌<◌, Bool, true, cond, ◌||◌, ◌⊎◌, List, [], ◌∷◌, ◌++◌, length, get_or, Some, None, Ok, Err, Option, Result, nat_le, nat_lt, slice_index_or, slice_set}
+use Rattle.std.specs.Prelude.{◌≡◌, ℕ, ◌+◌, ◌<◌, Bool, true, cond, ◌||◌, ◌⊎◌, List, [], ◌∷◌, ◌++◌, length, get_or, Some, None, Ok, Err, Option, Result, nat_le, slice_index_or, slice_set}
 use Rattle.refusal.specs.declared.Refusal.{Refusal}
-use Rattle.refusal.specs.declared.Refusal.TheVariants.{LotTooLarge, TooManyLots}
+use Rattle.refusal.specs.declared.Refusal.TheVariants.{TooManyLots}
 use Rattle.lots.specs.declared.rows.Key.{Key}
 use Rattle.lots.specs.declared.rows.LotRow.{LotRow}
-use Rattle.lots.specs.Rows.{most, no_lot, with_more, with_fewer}
+use Rattle.lots.specs.Rows.{no_lot, with_fewer}
 use Rattle.std.specs.List.{remove}
 use Rattle.matching.specs.declared.wanted.Draw.{Draw}
 use Rattle.matching.specs.Places.{NoneMatch, EarliestAt}
-use Rattle.stock.specs.Tables.{Table, last_serial, of_key}
+use Rattle.stock.specs.Tables.{Table, most_lots, last_serial, of_key}
 
 -- a lot of the key stands at this place, or none is open
 abbrev pub OpenAt : Key → List LotRow → Option ℕ → Type 0
 OpenAt k lots None = NoneMatch (of_key k) lots (length lots)
 OpenAt k lots (Some i) = (i < length lots) × (of_key k (slice_index_or lots i no_lot) ≡ true)
 
--- n units more for the lot at place i
-abbrev pub grown_at : ℕ → ℕ → Table → Result ℕ Refusal × Table
-grown_at i n t =
-    cond (nat_lt most ((get_or t.lots i no_lot).units + n)) (Err LotTooLarge, t)
-    (Ok (get_or t.lots i no_lot).serial, record { lots = slice_set t.lots i (with_more (slice_index_or t.lots i no_lot) n); next = t.next })
-
 -- a new lot, while there is room and a serial for it
 abbrev pub opened : Key → ℕ → Table → Result ℕ Refusal × Table
 opened k n t =
-    cond (nat_le last_serial t.next || nat_le 256 (length t.lots)) (Err TooManyLots, t)
+    cond (nat_le last_serial t.next || nat_le most_lots (length t.lots)) (Err TooManyLots, t)
     (Ok t.next, record { lots = t.lots ++ (record { key = k; units = n; serial = t.next } ∷ []); next = t.next + 1 })
 
 -- of n asked units the lot at place i gives what it has; emptied it is gone

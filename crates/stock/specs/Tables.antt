@@ -1,9 +1,11 @@
 -- The open lots, and what a purchase and a reduction answer and leave.
--- Each has three parts: which refusal it meets, if any; what an accepted one leaves; what it answers.
-use Rattle.std.specs.Prelude.{ℕ, ◌+◌, Bool, false, cond, ◌||◌, List, [], ◌∷◌, length, Some, None, Ok, Err, Option, Result, ◌==◌, nat_le, nat_lt}
+-- Each has three parts: the refusals that it can meet, in their order, of which the first is answered; what an accepted one leaves;
+-- what it answers.
+use Rattle.std.specs.Prelude.{ℕ, ◌+◌, Bool, false, cond, not, ◌&&◌, ◌||◌, List, [], ◌∷◌, length, Some, None, Ok, Err, Option, Result, ◌==◌, nat_le, nat_lt}
 use Rattle.std.specs.List.{find}
 use Rattle.refusal.specs.declared.Refusal.{Refusal}
 use Rattle.refusal.specs.declared.Refusal.TheVariants.{LotTooLarge, TooFewUnits, NotSettledByPolicy, TooManyLots}
+use Rattle.refusal.specs.Refusing.{first_met}
 use Rattle.lots.specs.declared.rows.Key.{Key}
 use Rattle.lots.specs.declared.rows.LotRow.{LotRow}
 use Rattle.lots.specs.Rows.{most, same_key, with_more}
@@ -17,6 +19,10 @@ use Rattle.matching.specs.Drawing.{settled, draws_of, lots_after}
 pub record Table : Type 0 where
   pub lots : List LotRow
   pub next : ℕ
+
+-- the most lots that are open at a time
+abbrev pub most_lots : ℕ
+most_lots = 256
 
 -- no lot bears it, since no serial follows it
 abbrev pub last_serial : ℕ
@@ -56,11 +62,15 @@ abbrev pub serial_for : Key → ℕ → List LotRow → ℕ
 serial_for k next [] = next
 serial_for k next (r ∷ rs) = cond (of_key k r) r.serial (serial_for k next rs)
 
--- 21: the lot would pass the most units of a lot; 24: a new lot is needed and 256 are open
+-- 21: the lot would pass the most units of a lot; 24: a new lot is needed and no more can be open
+abbrev pub purchase_tests : Key → ℕ → Table → List (Refusal × Bool)
+purchase_tests k n t =
+    (LotTooLarge, nat_lt most (units_of_key k t.lots + n))
+    ∷ (TooManyLots, not (is_open k t.lots) && nat_le most_lots (length t.lots))
+    ∷ []
+
 abbrev pub purchase_refusal : Key → ℕ → Table → Option Refusal
-purchase_refusal k n t =
-    cond (nat_lt most (units_of_key k t.lots + n)) (Some LotTooLarge)
-    (cond (is_open k t.lots) None (cond (nat_le 256 (length t.lots)) (Some TooManyLots) None))
+purchase_refusal k n t = first_met (purchase_tests k n t)
 
 abbrev pub table_after_purchase : Key → ℕ → Table → Table
 table_after_purchase k n t = record { lots = add_units k n t.next t.lots; next = cond (is_open k t.lots) t.next (t.next + 1) }
@@ -75,10 +85,14 @@ purchased_late k n t = cond (is_open k t.lots) (purchased k n t) (Err TooManyLot
 -- Reductions.
 
 -- 22: the matching lots hold less than u; 23: the policy does not settle
+abbrev pub reduction_tests : Order → Wanted → ℕ → Table → List (Refusal × Bool)
+reduction_tests o w u t =
+    (TooFewUnits, nat_lt (units_matching (matches w) t.lots) u)
+    ∷ (NotSettledByPolicy, not (settled o (matches w) u t.lots))
+    ∷ []
+
 abbrev pub reduction_refusal : Order → Wanted → ℕ → Table → Option Refusal
-reduction_refusal o w u t =
-    cond (nat_lt (units_matching (matches w) t.lots) u) (Some TooFewUnits)
-    (cond (settled o (matches w) u t.lots) None (Some NotSettledByPolicy))
+reduction_refusal o w u t = first_met (reduction_tests o w u t)
 
 abbrev pub table_after_reduction : Order → Wanted → ℕ → Table → Table
 table_after_reduction o w u t = record { lots = lots_after o w u t.lots; next = t.next }

@@ -2,7 +2,7 @@ use Rattle.std.proofs.Common.{refl, w32}
 use Rattle.std.proofs.lemmas.Int.{to_z-of_z}
 use Rattle.books.specs.Calls.{asserting}
 use Rattle.books.specs.declared.outcome.Outcome.TheVariants.{Done}
-use Rattle.ledger.specs.CallTables.{asserting_tests}
+use Rattle.books.specs.Refusals.{asserting_tests}
 use Rattle.ledger.proofs.Answering.{call_refused, call_accepted}
 use Rattle.ledger.proofs.Ledger.assert_balance.Goals as goal
 

@@ -1,7 +1,7 @@
 use Rattle.std.proofs.Common.{refl}
 use Rattle.books.specs.Calls.{beginning}
 use Rattle.books.specs.declared.outcome.Outcome.TheVariants.{Begun}
-use Rattle.ledger.specs.CallTables.{beginning_tests}
+use Rattle.books.specs.Refusals.{beginning_tests}
 use Rattle.ledger.proofs.Answering.{call_refused}
 use Rattle.ledger.proofs.Ledger.begin.Goals as goal
 

@@ -2,7 +2,7 @@ use Rattle.std.proofs.Common.{ℕ, refl, ap}
 use Rattle.books.specs.Calls.{closing}
 use Rattle.books.specs.Changes.{with_names, with_account_closed}
 use Rattle.books.specs.declared.outcome.Outcome.TheVariants.{Done}
-use Rattle.ledger.specs.CallTables.{closing_tests}
+use Rattle.books.specs.Refusals.{closing_tests}
 use Rattle.ledger.proofs.Answering.{call_refused, call_accepted}
 use Rattle.ledger.proofs.Ledger.close.Goals as goal
 

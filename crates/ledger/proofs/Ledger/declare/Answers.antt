@@ -1,7 +1,7 @@
 use Rattle.std.proofs.Common.{refl}
 use Rattle.books.specs.Calls.{declaring}
 use Rattle.books.specs.declared.outcome.Outcome.TheVariants.{Declared}
-use Rattle.ledger.specs.CallTables.{declaring_tests}
+use Rattle.books.specs.Refusals.{declaring_tests}
 use Rattle.ledger.proofs.Answering.{call_refused}
 use Rattle.ledger.proofs.Ledger.declare.Goals as goal
 

@@ -2,8 +2,7 @@ use Rattle.std.proofs.Common.{arith}
 use Rattle.std.proofs.lemmas.Grind.{common_steps}
 use Rattle.books.specs.Given.{given_amount}
 use Rattle.books.specs.Lookups.{commodity_number, number_or_0}
-use Rattle.books.specs.Refusals.{if_given, cost_not_declared}
-use Rattle.ledger.specs.Posting.{account_tests}
+use Rattle.books.specs.Refusals.{if_given, cost_not_declared, account_tests}
 use Rattle.ledger.proofs.Turns.{passed_before}
 use Rattle.ledger.proofs.Ledger.number_commodities.Goals as goal
 

@@ -1,9 +1,9 @@
 use Rattle.std.proofs.Common.{◌≡◌, ◌+◌, ◌<◌, ◌≤◌, Some, None, Ok, length, get_or, rules}
 use Rattle.lots.specs.Rows.{most, no_lot, grown}
-use Rattle.stock.specs.Places.{OpenAt, grown_at}
+use Rattle.stock.specs.Places.{OpenAt}
 use Rattle.stock.specs.Tables.{Table}
 use Rattle.stock.proofs.Keeping.{kept_set, grown_some}
-use Rattle.stock.proofs.Purchases.{grown_promised, opened_promised}
+use Rattle.stock.proofs.Purchases.{grown_at, grown_promised, opened_promised}
 use Rattle.stock.proofs.table.LotTable.purchase.Goals as goal
 
 pub returns-in_default : goal.returns-in_default
