@@ -1,5 +1,5 @@
 -- What is printed of a booked journal. 10 is a line's end, 32 a space, 35 the sign before a lot's serial.
-use Rattle.std.specs.Prelude.{ℕ, ◌+◌, ◌-◌, Bool, false, cond, List, [], ◌∷◌, ◌++◌, codes, ℤ, pos, None, nat_eq, slice_index_or}
+use Rattle.std.specs.Prelude.{ℕ, ◌+◌, ◌-◌, Bool, cond, List, [], ◌∷◌, ◌++◌, codes, ℤ, pos, nat_eq, slice_index_or}
 use Rattle.std.specs.List.{concat}
 use Rattle.std.specs.Fmt.{decimal}
 use Rattle.std.specs.Result.{result_unwrap_or}
@@ -10,6 +10,7 @@ use Rattle.books.specs.declared.account.Account.{Account}
 use Rattle.books.specs.declared.outcome.Outcome.{Outcome}
 use Rattle.books.specs.declared.outcome.Outcome.TheVariants.{Refused}
 use Rattle.books.specs.Questions.{holding_of}
+use Rattle.books.specs.Lookups.{account_at}
 use Rattle.books.specs.States.{Names, State}
 use Rattle.lots.specs.Orders.{Order, strict, fifo, lifo, whole_lot}
 use Rattle.lines.specs.declared.directive.Method.{Method}
@@ -27,7 +28,7 @@ unfoldable pub commodity_name : Names → ℕ → List ℕ
 commodity_name names n = slice_index_or names.commodities (n - 1) []
 
 unfoldable pub account_name : Names → ℕ → List ℕ
-account_name names n = (slice_index_or names.accounts (n - 1) (record { name = []; own = None; is_open = false })).name
+account_name names n = (account_at names n).name
 
 -- units of a commodity
 unfoldable pub units_text : Names → ℤ → ℕ → List ℕ
