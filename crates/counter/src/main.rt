@@ -7,9 +7,9 @@ mod story;
 
 use books::outcome::Outcome;
 use ledger::Ledger;
+use listing::figures::{Day, Hundredths};
 use lots::policy::{Fifo, Lifo, Policy, WholeLot};
 use lots::rows::LotRow;
-use listing::figures::{Day, Hundredths};
 use pages::rows::{read, rows_of};
 use rows::Printed;
 use runs::run;

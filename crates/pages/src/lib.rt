@@ -2,6 +2,5 @@
 #![tactic(auto)]
 
 pub mod booked;
-
 pub mod journal;
 pub mod rows;
