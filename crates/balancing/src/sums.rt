@@ -1,55 +1,66 @@
-// What entries weigh in a commodity. An i128 holds every sum here exactly, whatever units and costs are.
-ghost use Rattle.std.specs.Prelude.{◌≡◌, ◌≤◌, length};
+// What entries weigh in each commodity. An i128 holds every sum here exactly, whatever units and costs are.
+ghost use Rattle.std.specs.Prelude.{◌≡◌, ℕ, ◌+◌, ◌<◌, pos, ◌+ℤ◌, slice_index_or};
 ghost use Rattle.booking.specs.Weighing.{kind_weight, weight_sum};
 ghost use Rattle.weights.specs.Weights.{weight_in};
-ghost use Rattle.balancing.specs.Bounds.{Within};
+ghost use Rattle.balancing.specs.Bounds.{Within, Near};
 
 use booking::entries::Entries;
 use booking::entry::EntryKind;
+use booking::limits::MOST_COMMODITIES;
 use weights::{Weight, draw_weight, plain_weight, weight_of_key};
 
-// What a weight says in a commodity.
-fn weight_in(weight: &Weight, commodity: u8) -> i128
-    ensures { result ≡ weight_in commodity weight.now }
-{
-    if weight.commodity == commodity {
-        weight.amount
-    } else {
-        0
-    }
-}
+const SUMS: usize = MOST_COMMODITIES + 1;
 
-// What an entry weighs in a commodity; a blank nothing, until it is filled.
-fn kind_weight(kind: &EntryKind, commodity: u8) -> i128
-    ensures weighed { result ≡ kind_weight commodity kind.now }
-    ensures small { Within 1 result }
+// Each at the number of its commodity. No commodity has the number 0.
+pub(crate) type Sums = [i128; SUMS];
+
+// What an entry weighs; a blank nothing, until it is filled.
+fn weight_of(kind: &EntryKind) -> Weight
+    ensures weighed { (c : ℕ) → weight_in c result ≡ kind_weight c kind.now }
+    ensures small { Within 1 result.amount }
 {
     match *kind {
         EntryKind::PlainAmount {
             amount,
-            commodity: own,
+            commodity,
             ..
-        } => { weight_in(&plain_weight(amount, own), commodity) }
-        EntryKind::Unfilled { .. } => 0,
-        // no part of the arm above: of a pattern that binds an i32 in two ways no proof is made
+        } => plain_weight(amount, commodity),
+        EntryKind::Unfilled { .. } => Weight {
+            commodity: 0,
+            amount: 0,
+        },
+        // no part of the first arm: of a pattern that binds an i32 in two ways no proof is made
         EntryKind::Filled {
             amount,
-            commodity: own,
+            commodity,
             ..
-        } => { weight_in(&plain_weight(amount, own), commodity) }
-        EntryKind::Bought { key, units, .. } => weight_in(&weight_of_key(&key, units), commodity),
-        EntryKind::Drew(draw) => weight_in(&draw_weight(&draw), commodity),
+        } => plain_weight(amount, commodity),
+        EntryKind::Bought { key, units, .. } => weight_of_key(&key, units),
+        EntryKind::Drew(draw) => draw_weight(&draw),
     }
 }
 
-// What entries weigh together in a commodity.
-pub(crate) fn weight_sum(entries: &Entries, commodity: u8) -> i128
-    ensures { result ≡ weight_sum entries.now commodity }
+// A weight in a commodity that has no place counts for nothing.
+fn add_weight(sums: &mut Sums, weight: &Weight)
+    requires near { Near sums.old 288 }
+    requires small { Within 1 weight.now.amount }
+    ensures added { (c : ℕ) → c < 17 → slice_index_or sums.new c (pos 0) ≡ slice_index_or sums.old c (pos 0) +ℤ weight_in c weight.now }
+    ensures near { (n : ℕ) → Near sums.old n → Near sums.new (n + 1) }
 {
-    let mut sum = 0;
-    // no `sum`: it would owe that each sum on the way fits, which hangs on how many entries there are
-    for entry in entries.as_slice() {
-        sum += kind_weight(&entry.kind, commodity);
+    let at = usize::from(weight.commodity);
+    if at < SUMS {
+        sums[at] += weight.amount;
     }
-    sum
+}
+
+// What entries weigh together.
+#[tactic(auto, using(crate::proofs::Near::near_more))]
+pub(crate) fn weight_sums(entries: &Entries) -> Sums
+    ensures { (c : ℕ) → c < 17 → slice_index_or result c (pos 0) ≡ weight_sum entries.now c }
+{
+    let mut sums = [0; SUMS];
+    for entry in entries.as_slice() {
+        add_weight(&mut sums, &weight_of(&entry.kind));
+    }
+    sums
 }

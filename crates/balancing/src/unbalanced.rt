@@ -1,9 +1,9 @@
 // Which commodities are out of balance.
-ghost use Rattle.std.specs.Prelude.{◌≡◌, ◌≤◌, length};
+ghost use Rattle.std.specs.Prelude.{◌≡◌, pos, slice_index_or};
 ghost use Rattle.booking.specs.Weighing.{unbalanced_in, weight_sum};
 ghost use Rattle.balancing.specs.Summary.{summary, and_commodity};
 
-use crate::sums::weight_sum;
+use crate::sums::{Sums, weight_sums};
 use booking::entries::Entries;
 use booking::limits::MOST_COMMODITIES;
 
@@ -30,10 +30,17 @@ impl Unbalanced {
     }
 }
 
+fn sum_in(sums: &Sums, commodity: u8) -> i128
+    ensures { result ≡ slice_index_or sums.now commodity (pos 0) }
+{
+    sums.get(usize::from(commodity)).copied().unwrap_or(0)
+}
+
 pub fn unbalanced_in(entries: &Entries) -> Unbalanced
     ensures { result ≡ summary (weight_sum entries.now) (unbalanced_in entries.now) }
 {
+    let sums = weight_sums(entries);
     (1..=MOST_COMMODITIES as u8).fold(Unbalanced::Nothing, |found, commodity| {
-        found.and_commodity(commodity, weight_sum(entries, commodity))
+        found.and_commodity(commodity, sum_in(&sums, commodity))
     })
 }
