@@ -1,5 +1,6 @@
 // What entries weigh in each commodity. An i128 holds every sum here exactly, whatever units and costs are.
-ghost use Rattle.std.specs.Prelude.{◌≡◌, ℕ, ◌+◌, ◌<◌, pos, ◌+ℤ◌, slice_index_or};
+ghost use Rattle.std.specs.Prelude.{◌≡◌, ℕ, ◌+◌, ◌≤◌, pos, ◌+ℤ◌, slice_index_or};
+ghost use Rattle.booking.specs.Limits.{most_commodities};
 ghost use Rattle.booking.specs.Weighing.{kind_weight, weight_sum};
 ghost use Rattle.weights.specs.Weights.{weight_in};
 ghost use Rattle.balancing.specs.Bounds.{Within, Near};
@@ -44,7 +45,7 @@ fn weight_of(kind: &EntryKind) -> Weight
 fn add_weight(sums: &mut Sums, weight: &Weight)
     requires near { Near sums.old 288 }
     requires small { Within 1 weight.now.amount }
-    ensures added { (c : ℕ) → c < 17 → slice_index_or sums.new c (pos 0) ≡ slice_index_or sums.old c (pos 0) +ℤ weight_in c weight.now }
+    ensures added { (c : ℕ) → c ≤ most_commodities → slice_index_or sums.new c (pos 0) ≡ slice_index_or sums.old c (pos 0) +ℤ weight_in c weight.now }
     ensures near { (n : ℕ) → Near sums.old n → Near sums.new (n + 1) }
 {
     let at = usize::from(weight.commodity);
@@ -56,7 +57,7 @@ fn add_weight(sums: &mut Sums, weight: &Weight)
 // What entries weigh together.
 #[tactic(auto, using(crate::proofs::Near::near_more))]
 pub(crate) fn weight_sums(entries: &Entries) -> Sums
-    ensures { (c : ℕ) → c < 17 → slice_index_or result c (pos 0) ≡ weight_sum entries.now c }
+    ensures { (c : ℕ) → c ≤ most_commodities → slice_index_or result c (pos 0) ≡ weight_sum entries.now c }
 {
     let mut sums = [0; SUMS];
     for entry in entries.as_slice() {
