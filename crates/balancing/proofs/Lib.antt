@@ -1,3 +1,3 @@
 pub mod Ranges
 pub mod Summing
-pub mod Near
+pub mod Within

@@ -1,9 +1,10 @@
 // What entries weigh in each commodity. An i128 holds every sum here exactly, whatever units and costs are.
-ghost use Rattle.std.specs.Prelude.{◌≡◌, ℕ, ◌+◌, ◌≤◌, pos, ◌+ℤ◌, slice_index_or};
+ghost use Rattle.std.specs.Prelude.{◌≡◌, ℕ, ◌+◌, ◌≤◌, pos, ◌+ℤ◌, slice_index_or, unsigned_abs};
 ghost use Rattle.booking.specs.Limits.{most_commodities};
 ghost use Rattle.booking.specs.Weighing.{kind_weight, weight_sum};
 ghost use Rattle.weights.specs.Weights.{weight_in};
-ghost use Rattle.balancing.specs.Bounds.{Within, Near};
+ghost use Rattle.weights.specs.Sizes.{largest_weight};
+ghost use Rattle.balancing.specs.Bounds.{Near};
 
 use booking::entries::Entries;
 use booking::entry::EntryKind;
@@ -18,7 +19,7 @@ pub(crate) type Sums = [i128; SUMS];
 // What an entry weighs; a blank nothing, until it is filled.
 fn weight_of(kind: &EntryKind) -> Weight
     ensures weighed { (c : ℕ) → weight_in c result ≡ kind_weight c kind.now }
-    ensures small { Within 1 result.amount }
+    ensures small { unsigned_abs result.amount ≤ largest_weight }
 {
     match *kind {
         EntryKind::PlainAmount {
@@ -44,7 +45,7 @@ fn weight_of(kind: &EntryKind) -> Weight
 // A weight in a commodity that has no place counts for nothing.
 fn add_weight(sums: &mut Sums, weight: &Weight)
     requires near { Near sums.old 288 }
-    requires small { Within 1 weight.now.amount }
+    requires small { unsigned_abs weight.now.amount ≤ largest_weight }
     ensures added { (c : ℕ) → c ≤ most_commodities → slice_index_or sums.new c (pos 0) ≡ slice_index_or sums.old c (pos 0) +ℤ weight_in c weight.now }
     ensures near { (n : ℕ) → Near sums.old n → Near sums.new (n + 1) }
 {
@@ -55,7 +56,7 @@ fn add_weight(sums: &mut Sums, weight: &Weight)
 }
 
 // What entries weigh together.
-#[tactic(auto, using(crate::proofs::Near::near_more))]
+#[tactic(auto, using(crate::proofs::Within::all_within_more))]
 pub(crate) fn weight_sums(entries: &Entries) -> Sums
     ensures { (c : ℕ) → c ≤ most_commodities → slice_index_or result c (pos 0) ≡ weight_sum entries.now c }
 {

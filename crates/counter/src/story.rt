@@ -118,7 +118,7 @@ fn settle(slip: u32, lent: usize) -> Call<'static> {
     Call::Settle { slip, lent }
 }
 
-pub fn calls() -> [Call<'static>; CALL_COUNT] {
+pub(crate) fn calls() -> [Call<'static>; CALL_COUNT] {
     [
         declare(1, b"EUR"),
         declare(2, b"SENSOR"),

@@ -149,7 +149,7 @@ fn place_row<'a>(heap: Global, row: &'a str, cases: &mut Vec<Case<'a>>) -> anyho
     Ok(())
 }
 
-pub fn cases_of<'a>(heap: Global, text: &'a str) -> anyhow::Result<Vec<Case<'a>>> {
+pub(crate) fn cases_of<'a>(heap: Global, text: &'a str) -> anyhow::Result<Vec<Case<'a>>> {
     let mut cases = Vec::new(heap);
     for row in text.lines() {
         place_row(heap, row, &mut cases)?;

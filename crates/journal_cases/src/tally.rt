@@ -11,7 +11,7 @@ pub struct Tally {
 }
 
 impl Tally {
-    pub fn new(heap: Global) -> Tally {
+    pub(crate) fn new(heap: Global) -> Tally {
         Tally {
             out: String::new(heap),
             cases: 0,
@@ -34,7 +34,7 @@ impl Tally {
         Ok(())
     }
 
-    pub fn count(&mut self, case: &Case<'_>, found: &str) -> anyhow::Result<()> {
+    pub(crate) fn count(&mut self, case: &Case<'_>, found: &str) -> anyhow::Result<()> {
         self.cases = self.cases.saturating_add(1);
         let expected = case.expected.as_str();
         if case.unread.is_empty() && found == expected {
@@ -48,7 +48,7 @@ impl Tally {
         self.tell_lines(expected, found)
     }
 
-    pub fn report(&mut self) -> anyhow::Result<&str> {
+    pub(crate) fn report(&mut self) -> anyhow::Result<&str> {
         writeln!(self.out, "{} cases, {} differ", self.cases, self.differ)?;
         Ok(self.out.as_str())
     }

@@ -8,11 +8,13 @@ ghost use Rattle.law.specs.Worked.{WorkedRun};
 use lots::policy::Policy;
 
 // Books balance, balances and lots are what was settled, and reductions draw by the policy.
+#[tactic(auto, using(crate::proofs::Runs::books_stand))]
 pub fn books_stand()
     ensures { BooksStand }
 {}
 
 // One record that is handed from call to call holds the header, exactly the rows of all settled transactions in order, and the other bytes as they were.
+#[tactic(auto, using(crate::proofs::RunRecords::record_stands))]
 pub fn record_stands()
     ensures { RecordStands }
 {}

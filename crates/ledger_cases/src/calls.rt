@@ -159,7 +159,7 @@ fn writing_header<'a>(words: &'a [Word<'_>]) -> Option<Call<'a>> {
 }
 
 // None where the row asks for no call, or its call cannot be read.
-pub fn call_of<'a>(request: &'a Request<'_>) -> Option<Call<'a>> {
+pub(crate) fn call_of<'a>(request: &'a Request<'_>) -> Option<Call<'a>> {
     let words = request.words.as_slice();
     let inner = request.inner();
     match request.verb {

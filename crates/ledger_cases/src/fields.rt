@@ -72,13 +72,13 @@ fn show_fields(bytes: &[u8], fields: &[Field], out: &mut String) -> anyhow::Resu
     Ok(())
 }
 
-pub fn show_header(book: &[u8], out: &mut String) -> anyhow::Result<()> {
+pub(crate) fn show_header(book: &[u8], out: &mut String) -> anyhow::Result<()> {
     write!(out, "header")?;
     show_fields(book, &HEADER, out)
 }
 
 // Rows are counted from 1. A field that the record has no bytes for is not shown.
-pub fn show_row(book: &[u8], number: usize, out: &mut String) -> anyhow::Result<()> {
+pub(crate) fn show_row(book: &[u8], number: usize, out: &mut String) -> anyhow::Result<()> {
     write!(out, "row")?;
     let Some(before) = number.checked_sub(1) else {
         return Ok(());
@@ -90,7 +90,12 @@ pub fn show_row(book: &[u8], number: usize, out: &mut String) -> anyhow::Result<
 }
 
 // In hexadecimal, from one offset to before another.
-pub fn show_bytes(book: &[u8], from: usize, to: usize, out: &mut String) -> anyhow::Result<()> {
+pub(crate) fn show_bytes(
+    book: &[u8],
+    from: usize,
+    to: usize,
+    out: &mut String,
+) -> anyhow::Result<()> {
     write!(out, "bytes ")?;
     for b in book.get(from..to).unwrap_or(&[]) {
         write!(out, "{b:02x}")?;

@@ -77,7 +77,11 @@ fn lots_of<P: Policy>(
 }
 
 impl Seen {
-    pub fn look<P: Policy>(heap: Global, ledger: &Ledger<P>, book: &[u8]) -> anyhow::Result<Seen> {
+    pub(crate) fn look<P: Policy>(
+        heap: Global,
+        ledger: &Ledger<P>,
+        book: &[u8],
+    ) -> anyhow::Result<Seen> {
         Ok(Seen {
             counts: ledger.counts(),
             balances: balances_of(heap, ledger)?,
@@ -127,7 +131,7 @@ impl Seen {
     }
 
     // Whether no more than this has changed.
-    pub fn keeps_but(&self, change: Change, before: &Seen) -> bool {
+    pub(crate) fn keeps_but(&self, change: Change, before: &Seen) -> bool {
         match change {
             Change::Nothing => self.same_answers(before) && self.same_bytes(before),
             Change::Names => self.same_bookings(before) && self.same_bytes(before),

@@ -84,7 +84,7 @@ fn record_of<'a>(request: &Request<'_>) -> Option<Step<'a>> {
 
 impl<'a> Step<'a> {
     // None where the row cannot be read.
-    pub fn of(request: &'a Request<'_>) -> Option<Step<'a>> {
+    pub(crate) fn of(request: &'a Request<'_>) -> Option<Step<'a>> {
         if let Some(call) = call_of(request) {
             return Some(Step::Call(call));
         }
@@ -101,7 +101,7 @@ impl<'a> Step<'a> {
     }
 
     // What it may change where it is accepted.
-    pub fn change(&self) -> Change {
+    pub(crate) fn change(&self) -> Change {
         match self {
             Step::Call(Call::Declare { .. } | Call::Open { .. }) => Change::Names,
             Step::Call(Call::WriteHeader { .. }) => Change::Header,

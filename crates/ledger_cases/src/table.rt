@@ -40,7 +40,7 @@ fn place_row<'a>(
     Ok(())
 }
 
-pub fn sections_of<'a>(heap: Global, text: &'a str) -> anyhow::Result<Vec<Section<'a>>> {
+pub(crate) fn sections_of<'a>(heap: Global, text: &'a str) -> anyhow::Result<Vec<Section<'a>>> {
     let mut sections = Vec::new(heap);
     for row in text.lines() {
         place_row(heap, row, &mut sections)?;

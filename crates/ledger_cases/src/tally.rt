@@ -10,7 +10,7 @@ pub struct Tally {
 }
 
 impl Tally {
-    pub fn new(heap: Global) -> Tally {
+    pub(crate) fn new(heap: Global) -> Tally {
         Tally {
             out: String::new(heap),
             rows: 0,
@@ -19,12 +19,12 @@ impl Tally {
     }
 
     // More on the row that is counted next.
-    pub fn tell(&mut self, what: &str, text: &str) -> anyhow::Result<()> {
+    pub(crate) fn tell(&mut self, what: &str, text: &str) -> anyhow::Result<()> {
         writeln!(self.out, "{what}: {text}")?;
         Ok(())
     }
 
-    pub fn count(&mut self, row: &str, holds: bool) -> anyhow::Result<()> {
+    pub(crate) fn count(&mut self, row: &str, holds: bool) -> anyhow::Result<()> {
         self.rows = self.rows.saturating_add(1);
         if holds {
             return Ok(());
@@ -33,7 +33,7 @@ impl Tally {
         self.tell("differs", row)
     }
 
-    pub fn report(&mut self) -> anyhow::Result<&str> {
+    pub(crate) fn report(&mut self) -> anyhow::Result<&str> {
         writeln!(self.out, "{} rows, {} differ", self.rows, self.differ)?;
         Ok(self.out.as_str())
     }

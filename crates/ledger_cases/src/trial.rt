@@ -216,7 +216,11 @@ fn ledger_of<'a>(section: &Section<'a>) -> Option<(&'a str, usize)> {
     Some((policy, length.parse::<usize>().ok()?))
 }
 
-pub fn hold_section(heap: Global, section: &Section<'_>, tally: &mut Tally) -> anyhow::Result<()> {
+pub(crate) fn hold_section(
+    heap: Global,
+    section: &Section<'_>,
+    tally: &mut Tally,
+) -> anyhow::Result<()> {
     let rows = section.rows.as_slice();
     let Some((policy, length)) = ledger_of(section) else {
         return hold_none(section, tally);

@@ -48,7 +48,7 @@ fn split_braces(text: &str) -> Option<(&str, Option<&str>)> {
 }
 
 impl<'a> Request<'a> {
-    pub fn read(heap: Global, text: &'a str) -> anyhow::Result<Option<Request<'a>>> {
+    pub(crate) fn read(heap: Global, text: &'a str) -> anyhow::Result<Option<Request<'a>>> {
         let Some((front, inner)) = split_braces(text) else {
             return Ok(None);
         };
@@ -66,7 +66,7 @@ impl<'a> Request<'a> {
     }
 
     // The words in the braces.
-    pub fn inner(&self) -> Option<&[Word<'a>]> {
+    pub(crate) fn inner(&self) -> Option<&[Word<'a>]> {
         match &self.braces {
             Some(words) => Some(words.as_slice()),
             None => None,

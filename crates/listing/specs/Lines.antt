@@ -15,7 +15,7 @@ abbrev pub if_there : {X : Type 0} → List ℕ → (X → List ℕ) → Option 
 if_there before text None = []
 if_there before text (Some x) = before ++ text x
 
-unfoldable pub cost_text : Cost → List ℕ
+abbrev pub cost_text : Cost → List ℕ
 cost_text c = hundredths_text c.amount.hundredths ++ codes " " ++ c.commodity.text.now
 
 -- a comma and a space stand between a cost and a date

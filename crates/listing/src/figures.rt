@@ -13,8 +13,8 @@ fn digit(unit: u64, n: u64) -> u8
     b'0' + (n / unit % 10) as u8
 }
 
-// What is written is ASCII.
-fn write_bytes<W: fmt::Write>(f: &mut fmt::Formatter<W>, bytes: &[u8]) -> fmt::Result
+// What is written has to be UTF-8; figures, and all that a line may hold, are ASCII.
+pub(crate) fn write_bytes<W: fmt::Write>(f: &mut fmt::Formatter<W>, bytes: &[u8]) -> fmt::Result
     ensures writes { WritesOnOk W.Write.write_str_gives f.old result bytes.now f.new }
 {
     f.write_str(str::from_utf8(bytes).map_err(|_| fmt::Error)?)

@@ -8,7 +8,7 @@ ghost use Rattle.listing.specs.Lines.{cost_text, braces_text, units_text, postin
 
 pub mod figures;
 
-use crate::figures::{Day, Hundredths};
+use crate::figures::{Day, Hundredths, write_bytes};
 use fields::field::Field;
 use lines::directive::{Braces, Cost, Directive, Method, Posting, Units};
 use std::fmt;
@@ -26,7 +26,7 @@ impl fmt::Display for Listed<&[u8]> {
 
     fn fmt<W: fmt::Write>(&self, f: &mut fmt::Formatter<W>) -> fmt::Result {
         // what is listed is ASCII, as all that a line may hold
-        f.write_str(str::from_utf8(self.0).map_err(|_| fmt::Error)?)
+        write_bytes(f, self.0)
     }
 }
 
@@ -82,7 +82,6 @@ impl fmt::Display for Listed<Flag> {
 impl fmt::Display for Listed<Cost<'_>> {
     ghost output = { λ l. Some (cost_text l.0) };
 
-    #[tactic(auto, unfolding(crate::specs::Lines::cost_text))]
     fn fmt<W: fmt::Write>(&self, f: &mut fmt::Formatter<W>) -> fmt::Result {
         let cost = self.0;
         write!(f, "{} {}", Listed(cost.amount), Listed(cost.commodity))

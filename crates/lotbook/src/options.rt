@@ -12,7 +12,7 @@ pub struct Options {
 
 impl Options {
     // The first argument is the program's name. None, if there is an argument that the program does not know.
-    pub fn parse(args: Args<Global>) -> Option<Options> {
+    pub(crate) fn parse(args: Args<Global>) -> Option<Options> {
         let mut options = Options {
             record: None,
             lots: false,

@@ -52,7 +52,7 @@ fn add_kind(places: &mut [i64; PLACES], kind: &EntryKind)
 }
 
 // The balances after entries, one after another.
-#[tactic(auto, using(crate::proofs::Bounds::near_more))]
+#[tactic(auto, using(balancing::proofs::Within::all_within_more))]
 pub(super) fn add_entries(places: &mut [i64; PLACES], entries: &Entries)
     requires { Near places.old 0 }
     ensures { places.new ≡ balances_after places.old entries.now }
