@@ -48,6 +48,7 @@ impl Balances {
     pub fn balance(&self, account: u16, commodity: u8) -> i64
         ensures value { result ≡ balance_in self.now account commodity }
         ensures small { unsigned_abs result ≤ largest_balance }
+        ensures kept { all_within self.now ≡ true }
     {
         self.places
             .get(place(account, commodity))

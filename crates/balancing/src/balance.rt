@@ -54,7 +54,7 @@ pub fn balance(postings: &[Posting], entries: &mut Entries, own: Option<u8>) -> 
     if postings.is_empty() {
         return Err(Refusal::NotBalanced);
     }
-    let unbalanced = unbalanced_in(entries);
+    let unbalanced = unbalanced_in(entries.as_slice());
     if has_blank(entries.as_slice()) {
         return fill(entries, own, unbalanced);
     }

@@ -1,13 +1,12 @@
 // What entries weigh in each commodity. An i128 holds every sum here exactly, whatever units and costs are.
-ghost use Rattle.std.specs.Prelude.{◌≡◌, ℕ, ◌+◌, ◌≤◌, pos, ◌+ℤ◌, slice_index_or, unsigned_abs};
+ghost use Rattle.std.specs.Prelude.{◌≡◌, ℕ, ◌+◌, ◌≤◌, length, pos, ◌+ℤ◌, slice_index_or, unsigned_abs};
 ghost use Rattle.booking.specs.Limits.{most_commodities};
 ghost use Rattle.booking.specs.Weighing.{kind_weight, weight_sum};
 ghost use Rattle.weights.specs.Weights.{weight_in};
 ghost use Rattle.weights.specs.Sizes.{largest_weight};
 ghost use Rattle.balancing.specs.Bounds.{Near};
 
-use booking::entries::Entries;
-use booking::entry::EntryKind;
+use booking::entry::{Entry, EntryKind};
 use booking::limits::MOST_COMMODITIES;
 use weights::{Weight, draw_weight, plain_weight, weight_of_key};
 
@@ -57,11 +56,12 @@ fn add_weight(sums: &mut Sums, weight: &Weight)
 
 // What entries weigh together.
 #[tactic(auto, using(crate::proofs::Within::all_within_more))]
-pub(crate) fn weight_sums(entries: &Entries) -> Sums
+pub(crate) fn weight_sums(entries: &[Entry]) -> Sums
+    requires { length entries.now ≤ 288 }
     ensures { (c : ℕ) → c ≤ most_commodities → slice_index_or result c (pos 0) ≡ weight_sum entries.now c }
 {
     let mut sums = [0; SUMS];
-    for entry in entries.as_slice() {
+    for entry in entries {
         add_weight(&mut sums, &weight_of(&entry.kind));
     }
     sums

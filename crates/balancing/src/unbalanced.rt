@@ -1,10 +1,10 @@
 // Which commodities are out of balance.
-ghost use Rattle.std.specs.Prelude.{◌≡◌, pos, slice_index_or};
+ghost use Rattle.std.specs.Prelude.{◌≡◌, ◌≤◌, length, pos, slice_index_or};
 ghost use Rattle.booking.specs.Weighing.{unbalanced_in, weight_sum};
 ghost use Rattle.balancing.specs.Summary.{summary, and_commodity};
 
 use crate::sums::{Sums, weight_sums};
-use booking::entries::Entries;
+use booking::entry::Entry;
 use booking::limits::MOST_COMMODITIES;
 
 // None, one with what its weights sum to, or several.
@@ -36,7 +36,8 @@ fn sum_in(sums: &Sums, commodity: u8) -> i128
     sums.get(usize::from(commodity)).copied().unwrap_or(0)
 }
 
-pub fn unbalanced_in(entries: &Entries) -> Unbalanced
+pub fn unbalanced_in(entries: &[Entry]) -> Unbalanced
+    requires { length entries.now ≤ 288 }
     ensures { result ≡ summary (weight_sum entries.now) (unbalanced_in entries.now) }
 {
     let sums = weight_sums(entries);

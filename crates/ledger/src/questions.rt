@@ -1,5 +1,6 @@
 // What can be asked of a ledger. Questions change nothing and never show a draft.
-ghost use Rattle.std.specs.Prelude.{◌≡◌, ◌≤◌, length, not};
+ghost use Rattle.std.specs.Prelude.{◌≡◌, ◌+◌, ◌≤◌, length, not};
+ghost use Rattle.record.specs.Layout.{most_rows};
 ghost use Rattle.refusal.specs.Refusing.{unless};
 ghost use Rattle.books.specs.Conditions.{nothing_there};
 ghost use Rattle.books.specs.Refusals.{first_fault_met};
@@ -63,7 +64,10 @@ impl<P: Policy> Ledger<P> {
     }
 
     pub fn counts(&self) -> Counts
-        ensures { result ≡ counts_of self.now.state }
+        ensures counted { result ≡ counts_of self.now.state }
+        ensures transactions { self.now.state.transactions ≤ self.now.state.rows }
+        ensures rows { self.now.state.rows ≤ most_rows }
+        ensures serials { self.now.state.books.table.next ≤ self.now.state.rows + 1 }
     {
         Counts {
             commodities: self.chart.commodities(),

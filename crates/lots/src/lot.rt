@@ -1,5 +1,5 @@
 // A lot: a row whose units and cost are within their ranges, for as long as it lives. Clauses see it as that row.
-ghost use Rattle.std.specs.Prelude.{◌≡◌, true};
+ghost use Rattle.std.specs.Prelude.{◌≡◌, true, IfSome};
 ghost use Rattle.lots.specs.Rows.{lot_in, in_range, shrunk, grown};
 
 use crate::rows::LotRow;
@@ -29,7 +29,8 @@ impl Model for Lot {
 impl Lot {
     // The lot in a row, if the row is within a lot's ranges.
     pub fn new(row: LotRow) -> Option<Lot>
-        ensures { result ≡ lot_in row }
+        ensures lot { result ≡ lot_in row }
+        ensures ranges { IfSome result (λ l. in_range l ≡ true) }
     {
         if row.units < 1 || row.units > MOST || row.key.cost.number > MOST {
             return None;
@@ -47,7 +48,8 @@ impl Lot {
 
     // The lot less so many units; none where that would empty it, since an empty lot does not exist.
     pub fn shrink(self, by: u32) -> Option<Lot>
-        ensures { result ≡ shrunk self by }
+        ensures rest { result ≡ shrunk self by }
+        ensures ranges { IfSome result (λ l. in_range l ≡ true) }
     {
         if self.row.units <= by {
             return None;
@@ -62,7 +64,8 @@ impl Lot {
 
     // The lot with so many units more; none where that would pass the most units of a lot.
     pub fn grow(self, by: u32) -> Option<Lot>
-        ensures { result ≡ grown self by }
+        ensures more { result ≡ grown self by }
+        ensures ranges { IfSome result (λ l. in_range l ≡ true) }
     {
         if by > MOST - self.row.units {
             return None;

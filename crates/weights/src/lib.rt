@@ -1,7 +1,8 @@
 // What amounts and lots weigh: ten-thousandths of a commodity, unrounded. An i128 holds every product here exactly.
 #![tactic(auto)]
 
-ghost use Rattle.std.specs.Prelude.{◌≡◌, ◌*◌, ◌≤◌, pos, nat_abs};
+ghost use Rattle.std.specs.Prelude.{◌≡◌, ◌*◌, ◌≤◌, true, pos, nat_abs};
+ghost use Rattle.lots.specs.Rows.{in_range};
 ghost use Rattle.weights.specs.Weights.{plain_weight, purchase_weight, draw_weight};
 ghost use Rattle.weights.specs.Sizes.{largest_weight};
 
@@ -46,7 +47,9 @@ pub fn weight_of_key(key: &Key, units: u32) -> Weight
 
 // A purchase weighs its units, and a draw weighs them below zero.
 pub fn purchase_weight(bought: &Lot) -> Weight
-    ensures { result ≡ purchase_weight bought.now.key bought.now.units }
+    ensures weighed { result ≡ purchase_weight bought.now.key bought.now.units }
+    ensures size { nat_abs result.amount ≤ largest_weight }
+    ensures ranges { in_range bought.now ≡ true }
 {
     let row = bought.row();
     weight_of_key(&row.key, row.units)
