@@ -1,3 +1,4 @@
+pub mod Worked
 pub mod Passing
 pub mod Blanks
 pub mod Drafts

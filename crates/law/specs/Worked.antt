@@ -1,7 +1,7 @@
--- A worked run under FIFO, and calls for other worked cases.
+-- A worked run under FIFO, and two settlings that are refused.
 use Rattle.std.specs.Prelude.{◌≡◌, ℕ, List, [], ◌∷◌, ◌++◌, replicate, ℤ, pos, neg_ℤ, Some, None, Ok, codes, Option}
 use Rattle.refusal.specs.declared.Refusal.{Refusal}
-use Rattle.refusal.specs.declared.Refusal.TheVariants.{NoSuchDraft, BadAccountName, GoesBack, AccountOpenedBefore, AccountNotOpen, BalanceDiffers, AccountNotEmpty}
+use Rattle.refusal.specs.declared.Refusal.TheVariants.{NoSuchDraft, BadAccountName, GoesBack, AccountOpenedBefore, AccountNotOpen, NotBalanced, BlankCannotBeFilled, BalanceDiffers, AccountNotEmpty}
 use Rattle.values.specs.declared.flag.Flag.TheVariants.{Complete, Incomplete}
 use Rattle.lots.specs.declared.rows.LotRow.{LotRow}
 use Rattle.lots.specs.Orders.{fifo, whole_lot}
@@ -137,4 +137,6 @@ pub record WorkedRun : Type 0 where
       ∷ entry 13 (Drew (record { lot = first_lot; units = 1000 })) ∷ entry 13 (Drew (record { lot = second_lot; units = 200 })) ∷ entry 14 (PlainAmount 2 (pos 30000) 1) ∷ entry 15 (Filled 3 (neg_ℤ (pos 300)) 1) ∷ []
   pub branches_are : outcomes fifo empty_ledger branches ≡ branched
   pub branch_lots_are : (state_after fifo empty_ledger branches).books.table.lots ≡ sensors_in 1 1000 20240102 500 1 ∷ sensors_in 4 1100 20231201 300 2 ∷ sensors_in 5 1000 20240102 100 3 ∷ []
+  pub against_an_amount : outcomes fifo empty_ledger (against (plain (neg_ℤ (pos 833)))) ≡ named ++ (Begun 1 ∷ Done ∷ Done ∷ refused NotBalanced 6 ∷ [])
+  pub against_a_blank : outcomes fifo empty_ledger (against None) ≡ named ++ (Begun 1 ∷ Done ∷ Done ∷ refused BlankCannotBeFilled 6 ∷ [])
   pub record_is : record_after_calls (whole_lot fifo) empty_ledger invoice (replicate 100 7) ≡ invoice_record ++ (7 ∷ 7 ∷ 7 ∷ 7 ∷ [])

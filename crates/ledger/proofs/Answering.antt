@@ -9,14 +9,22 @@ use Rattle.lots.specs.Orders.{Order}
 use Rattle.booking.specs.Booking.{at_line}
 use Rattle.books.specs.declared.outcome.Outcome.{Outcome}
 use Rattle.books.specs.States.{State}
-use Rattle.books.specs.Calls.{Call}
-use Rattle.books.specs.Refusals.{tests_at, refusal, first_fault_met}
+use Rattle.books.specs.Calls.{Call, opening}
+use Rattle.books.specs.Refusals.{tests, tests_at, opening_tests, refusal, first_fault_met}
 use Rattle.books.specs.Changes.{change, reply}
 use Rattle.books.specs.Steps.{answered, step, AnswersFirst}
 use Rattle.books.proofs.Firsts.{answers_first_met}
 use Rattle.books.proofs.Nested.{first_at}
 use Rattle.ledger.specs.Answers.{carried_out, outcome_of}
 use Rattle.ledger.specs.Kept.{Kept, in_state}
+
+-- a call's refusal is the first that its table meets
+pub by_table : (o : Order) (s : State) (c : Call) (line : ℕ) (ts : List (Refusal × Bool)) → tests o s c ≡ tests_at line ts → refusal o s c ≡ at_line line (first_met ts)
+by_table o s c line ts table = ap first_fault_met table ∙ first_at line ts
+
+-- an opening's too, whether or not it names an own commodity
+pub opening_by_table : (o : Order) (s : State) (source date : ℕ) (name : List ℕ) (own : Option (List ℕ)) → refusal o s (opening source date name own) ≡ at_line source (first_met (opening_tests s date name own))
+opening_by_table o s source date name own = by_table o s (opening source date name own) source (opening_tests s date name own) refl
 
 module _ {P : Type 0} (order : P → Order) (l : Kept P) (c : Call) (line : ℕ) (ts : List (Refusal × Bool)) (table : refusal (order l.policy) l.state c ≡ first_fault_met (tests_at line ts)) where
   -- what the call answers and leaves if it meets this refusal, or none

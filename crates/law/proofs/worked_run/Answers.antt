@@ -15,5 +15,7 @@ returns c = record {
   entries_are = refl;
   branches_are = refl;
   branch_lots_are = refl;
+  against_an_amount = refl;
+  against_a_blank = refl;
   record_is = refl;
 }
