@@ -20,11 +20,12 @@ pub fn ends_field(rest: &[u8]) -> bool
 fn quoted_length(text: &[u8]) -> Option<usize>
     ensures { result ≡ quoted_length text.now }
 {
+    // first, so that a text that opens with no quote costs nothing
+    if byte_at(text, 0) != b'"' {
+        return None;
+    }
     let n = run_of(ByteClass::QuotedText, after(text, 1));
-    let is_quoted = byte_at(text, 0) == b'"'
-        && n <= 40
-        && byte_at(text, n + 1) == b'"'
-        && ends_field(after(text, n + 2));
+    let is_quoted = n <= 40 && byte_at(text, n + 1) == b'"' && ends_field(after(text, n + 2));
     is_quoted.then_some(n)
 }
 

@@ -1,3 +1,4 @@
+pub mod Numbered
 pub mod Days
 pub mod Parts
 pub mod Commodities

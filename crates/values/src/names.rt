@@ -39,7 +39,9 @@ fn is_root_name(text: &[u8]) -> bool
 fn are_parts(text: &[u8], most: usize) -> bool
     ensures { result ≡ all_parts most (split_at 58 text.now) }
 {
-    text.split(|b| *b == b':').all(is_name_part) && text.split(|b| *b == b':').count() <= most
+    text.split(|b| *b == b':')
+        .enumerate()
+        .all(|(i, part)| i < most && is_name_part(part))
 }
 
 // Whether a text is an account's name: at most 48 bytes, two to six parts joined by colons, the first
@@ -48,8 +50,12 @@ pub fn is_account_name(text: &[u8]) -> bool
     ensures value { result ≡ is_account_name text.now }
     ensures exactly { Decides result (IsAccountName text.now) }
 {
+    // first, so that a text of any length costs no more than the longest name
+    if text.len() > LONGEST_NAME {
+        return false;
+    }
     let n = run_of(ByteClass::Except(b':'), text);
-    if text.len() > LONGEST_NAME || n == text.len() {
+    if n == text.len() {
         return false;
     }
     is_root_name(front(text, n)) && are_parts(after(text, n + 1), 5)

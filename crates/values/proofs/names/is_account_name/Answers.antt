@@ -1,4 +1,4 @@
-use Rattle.std.proofs.Common.{◌≡◌, ◌+◌, ◌<◌, false, true, length, take, drop, sym, ◌∙◌, ⊎_elim, arith}
+use Rattle.std.proofs.Common.{◌≡◌, ◌+◌, ◌<◌, false, true, length, take, drop, sym, arith}
 use Rattle.std.proofs.lemmas.Bool.Decides.{Decides-at}
 use Rattle.byte_text.specs.Classes.{before}
 use Rattle.values.specs.Names.{is_root, is_account_name}
@@ -8,9 +8,14 @@ use Rattle.values.proofs.names.is_account_name.Goals as goal
 
 pub returns-then-text-gt-LONGEST_NAME : goal.returns-then-text-gt-LONGEST_NAME
 returns-then-text-gt-LONGEST_NAME c =
+    let e : false ≡ is_account_name c.args.text.now = sym (account_long c.args.text.now (omega arith)) in
+    record { value = e; exactly = Decides-at _ _ e (account_decides _) }
+
+pub returns-then-n-text : goal.returns-then-n-text
+returns-then-n-text c =
     let xs = c.args.text.now in
-    let e : false ≡ is_account_name xs =
-    sym (⊎_elim (account_long xs) (λ w. account_alone xs (sym c.run_of-n.ensures.value ∙ w.1)) c.then-text-gt-LONGEST_NAME.either) in
+    let h : before 58 xs ≡ length xs = omega arith in
+    let e : false ≡ is_account_name xs = sym (account_alone xs h) in
     record { value = e; exactly = Decides-at _ _ e (account_decides _) }
 
 pub returns-then-is_root_name : goal.returns-then-is_root_name
