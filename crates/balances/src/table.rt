@@ -1,6 +1,8 @@
 // The plain balances: 16 commodities for each of 64 accounts, none larger than the largest that a settling leaves.
 // Clauses see them as the list of the places.
-ghost use Rattle.std.specs.Prelude.{◌≡◌, ◌≤◌, true, unsigned_abs};
+ghost use Rattle.std.specs.Prelude.{◌≡◌, ◌≤◌, true, length, unsigned_abs};
+ghost use Rattle.std.specs.List.{list_all};
+ghost use Rattle.booking.specs.Ranges.{entry_in_range};
 ghost use Rattle.booking.specs.Balances.{no_balances, balance_in, balances_after, all_within, largest_balance};
 ghost use Rattle.balances.specs.Stages.{settled_balances};
 
@@ -37,11 +39,20 @@ impl Model for Balances {
 impl Balances {
     // Every balance is 0.
     pub fn new() -> Balances
-        ensures { result ≡ no_balances }
+        ensures empty { result ≡ no_balances }
+        ensures kept { all_within result ≡ true }
     {
         Balances {
             places: [0; PLACES],
         }
+    }
+
+    // The balances of all accounts, one account after another.
+    pub fn as_slice(&self) -> &[i64]
+        ensures listed { result.now ≡ self.now }
+        ensures kept { all_within self.now ≡ true }
+    {
+        &self.places[..]
     }
 
     // The plain balance of an account in a commodity; one that has no place has none.
@@ -58,7 +69,10 @@ impl Balances {
 
     // 27, where a balance would be too large after the entries of a draft.
     pub fn check(&self, entries: &Entries) -> Result<(), Refusal>
-        ensures { result ≡ settled_balances self.now entries.now }
+        ensures checked { result ≡ settled_balances self.now entries.now }
+        ensures kept { all_within self.now ≡ true }
+        ensures few { length entries.now ≤ 288 }
+        ensures ranges { list_all entry_in_range entries.now ≡ true }
     {
         if !all_stay(&self.places, entries) {
             return Err(Refusal::BalanceTooLarge);
@@ -70,7 +84,10 @@ impl Balances {
     #[tactic(auto, using(crate::proofs::Bounds::near_none))]
     pub fn add(&mut self, entries: &Entries)
         requires { all_within (balances_after self.old entries.now) ≡ true }
-        ensures { self.new ≡ balances_after self.old entries.now }
+        ensures added { self.new ≡ balances_after self.old entries.now }
+        ensures kept { (all_within self.old ≡ true) × (all_within self.new ≡ true) }
+        ensures few { length entries.now ≤ 288 }
+        ensures ranges { list_all entry_in_range entries.now ≡ true }
     {
         add_entries(&mut self.places, entries);
     }

@@ -1,6 +1,8 @@
 // Whether a draft balances: 25, the blank, and 26.
-ghost use Rattle.std.specs.Prelude.{◌≡◌, length, OnErr};
+ghost use Rattle.std.specs.Prelude.{◌≡◌, ◌≤◌, true, length, OnOk, OnErr};
+ghost use Rattle.std.specs.List.{list_all};
 ghost use Rattle.stock.specs.Promises.{map_ok};
+ghost use Rattle.booking.specs.Ranges.{entry_in_range};
 ghost use Rattle.booking.specs.Weighing.{has_blank};
 ghost use Rattle.balancing.specs.Summary.{amount_for, with_blank, balanced, entries_after};
 
@@ -32,6 +34,8 @@ fn has_blank(entries: &[Entry]) -> bool
 fn fill(entries: &mut Entries, own: Option<u8>, unbalanced: Unbalanced) -> Result<(), Refusal>
     ensures defined { map_ok (λ _. entries.new) result ≡ with_blank own entries.old unbalanced }
     ensures refused { OnErr result (entries.new ≡ entries.old) }
+    ensures few { OnOk result (length entries.new ≤ 288) }
+    ensures ranges { OnOk result (list_all entry_in_range entries.new ≡ true) }
 {
     let Unbalanced::Only { commodity, sum } = unbalanced else {
         return Err(Refusal::BlankCannotBeFilled);
@@ -50,12 +54,15 @@ fn fill(entries: &mut Entries, own: Option<u8>, unbalanced: Unbalanced) -> Resul
 pub fn balance(postings: &[Posting], entries: &mut Entries, own: Option<u8>) -> Result<(), Refusal>
     ensures defined { map_ok (λ _. entries.new) result ≡ balanced postings.now own entries.old }
     ensures entries { entries.new ≡ entries_after postings.now own entries.old }
+    ensures few { (length entries.old ≤ 288) × (length entries.new ≤ 288) }
+    ensures ranges { (list_all entry_in_range entries.old ≡ true) × (list_all entry_in_range entries.new ≡ true) }
 {
+    let listed = entries.as_slice();
     if postings.is_empty() {
         return Err(Refusal::NotBalanced);
     }
-    let unbalanced = unbalanced_in(entries.as_slice());
-    if has_blank(entries.as_slice()) {
+    let unbalanced = unbalanced_in(listed);
+    if has_blank(listed) {
         return fill(entries, own, unbalanced);
     }
     match unbalanced {

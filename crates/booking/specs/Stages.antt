@@ -1,5 +1,6 @@
 -- What booking answers, posting by posting: the first refusal that is met, or the lots and the entries after it.
-use Rattle.std.specs.Prelude.{ℕ, ◌+◌, ◌≤◌, List, [], ◌∷◌, ◌++◌, length, Result}
+use Rattle.std.specs.Prelude.{◌≡◌, ℕ, ◌+◌, ◌≤◌, true, List, [], ◌∷◌, ◌++◌, length, Result}
+use Rattle.std.specs.List.{list_all}
 use Rattle.refusal.specs.declared.Refusal.{Refusal}
 use Rattle.refusal.specs.declared.Fault.{Fault}
 use Rattle.refusal.specs.Refusing.{unless}
@@ -8,7 +9,9 @@ use Rattle.lots.specs.Orders.{Order}
 use Rattle.matching.specs.declared.wanted.Wanted.{Wanted}
 use Rattle.matching.specs.Drawing.{draws_of}
 use Rattle.stock.specs.Tables.{Table, last_serial, serial_for, purchase_refusal, table_after_purchase, reduction_refusal, table_after_reduction}
+use Rattle.stock.specs.Kept.{WellKept}
 use Rattle.booking.specs.Limits.{most_entries}
+use Rattle.booking.specs.Ranges.{entry_in_range}
 use Rattle.booking.specs.declared.posting.Posting.{Posting}
 use Rattle.booking.specs.declared.posting.PostingKind.{PostingKind}
 use Rattle.booking.specs.declared.entry.Entry.{Entry}
@@ -46,6 +49,10 @@ HasRoom b = length b.1 + length b.0.lots + 2 ≤ most_entries
 
 abbrev pub HasSerials : Table × List Entry → Type 0
 HasSerials b = b.0.next + 1 ≤ last_serial
+
+-- the open lots are well kept, and each entry is within its range
+abbrev pub IsKept : Table × List Entry → Type 0
+IsKept b = WellKept b.0 × (list_all entry_in_range b.1 ≡ true)
 
 -- With a posting, entries and open lots together grow by at most 2, and each new serial comes with an entry.
 pub record Grows (before after : Table × List Entry) : Type 0 where

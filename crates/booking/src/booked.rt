@@ -6,7 +6,7 @@ ghost use Rattle.stock.specs.Promises.{map_ok};
 ghost use Rattle.stock.specs.Tables.{no_lots};
 ghost use Rattle.booking.specs.Postings.{lot_date};
 ghost use Rattle.booking.specs.Ranges.{posting_in_range};
-ghost use Rattle.booking.specs.Stages.{book_purchase, book_reduction, book_kind, book_posting, Grows, HasRoom, HasSerials};
+ghost use Rattle.booking.specs.Stages.{book_purchase, book_reduction, book_kind, book_posting, IsKept, Grows, HasRoom, HasSerials};
 
 use crate::entries::Entries;
 use crate::entry::EntryKind;
@@ -56,11 +56,13 @@ impl Booked {
     pub(crate) fn start(&mut self, lots: &LotTable)
         ensures started { self.new ≡ (lots.now, []) }
         ensures few { length self.new.0.lots ≤ 256 }
+        ensures kept { IsKept self.new }
     {
         self.lots.copy_from(lots);
         self.entries.clear();
     }
 
+    #[tactic(auto, using(crate::proofs::Passing::pass_entered))]
     fn purchase(&mut self, line: u32, key: Key, units: u32) -> Result<(), Refusal>
         requires ranged { in_range (record { key = key; units = units; serial = 0 }) ≡ true }
         requires room { HasRoom self.old }
@@ -68,6 +70,7 @@ impl Booked {
         ensures defined { map_ok (λ _. self.new) result ≡ book_purchase line key units self.old }
         ensures grows { Grows self.old self.new }
         ensures entered { OnOk result (length self.old.1 < length self.new.1) }
+        ensures keeps { IsKept self.old → IsKept self.new }
     {
         let bought = Lot::new(LotRow {
             key,
@@ -81,12 +84,14 @@ impl Booked {
         Ok(())
     }
 
+    #[tactic(auto, using(crate::proofs::Passing::pass_drawn))]
     fn reduce<P: Policy>(&mut self, line: u32, asked: &Reduction<P>) -> Result<(), Refusal>
         requires some { 1 ≤ asked.now.units }
         requires room { HasRoom self.old }
         ensures defined { map_ok (λ _. self.new) result ≡ book_reduction (P.Policy.order asked.now.policy.now) line asked.now.wanted asked.now.units self.old }
         ensures grows { Grows self.old self.new }
         ensures entered { OnOk result (length self.old.1 < length self.new.1) }
+        ensures keeps { IsKept self.old → IsKept self.new }
     {
         self.lots.reduce(asked, &mut self.draws)?;
         self.entries.enter_draws(line, self.draws.as_slice());
@@ -95,6 +100,7 @@ impl Booked {
 
     // A posting of each kind. Policy and day are passed side by side and make no struct:
     // the one is the ledger's and the other the draft's, and nothing but these calls would name the pair.
+    #[tactic(auto, using(crate::proofs::Passing::pass_entered))]
     fn book_kind<P: Policy>(
         &mut self,
         policy: &P,
@@ -107,6 +113,7 @@ impl Booked {
         ensures defined { map_ok (λ _. self.new) result ≡ book_kind (P.Policy.order policy.now) day posting.now.line posting.now.account posting.now.kind self.old }
         ensures grows { Grows self.old self.new }
         ensures entered { OnOk result (length self.old.1 < length self.new.1) }
+        ensures keeps { IsKept self.old → IsKept self.new }
     {
         let Posting {
             line,
@@ -179,6 +186,7 @@ impl Booked {
         ensures defined { map_ok (λ _. self.new) result ≡ book_posting (P.Policy.order policy.now) day posting.now self.old }
         ensures grows { Grows self.old self.new }
         ensures entered { OnOk result (length self.old.1 < length self.new.1) }
+        ensures keeps { IsKept self.old → IsKept self.new }
     {
         self.book_kind(policy, day, posting)
             .map_err(|refusal| refusal.on(posting.line))

@@ -2,9 +2,10 @@
 ghost use Rattle.std.specs.Prelude.{◌≡◌, ◌+◌, ◌≤◌, true, length, OnOk};
 ghost use Rattle.std.specs.List.{list_all};
 ghost use Rattle.stock.specs.Promises.{map_ok};
+ghost use Rattle.stock.specs.Kept.{WellKept};
 ghost use Rattle.stock.specs.Tables.{last_serial};
 ghost use Rattle.booking.specs.Ranges.{posting_in_range};
-ghost use Rattle.booking.specs.Stages.{book_postings, book_draft};
+ghost use Rattle.booking.specs.Stages.{book_postings, book_draft, IsKept};
 
 use crate::booked::Booked;
 use crate::posting::Posting;
@@ -39,6 +40,8 @@ impl Booked {
         ensures defined { map_ok (λ _. self.new) result ≡ book_postings (P.Policy.order policy.now) day self.old postings.now }
         ensures serials { self.new.0.next + length self.old.1 ≤ self.old.0.next + length self.new.1 }
         ensures entered { OnOk result (length self.old.1 + length postings.now ≤ length self.new.1) }
+        ensures few { length self.new.1 ≤ 288 }
+        ensures keeps { IsKept self.old → IsKept self.new }
     {
         for posting in postings {
             self.book_posting(policy, day, posting)?;
@@ -61,6 +64,10 @@ pub fn book<P: Policy>(
     ensures defined { map_ok (λ _. booked.new) result ≡ book_draft (P.Policy.order policy.now) day lots.now postings.now }
     ensures serials { OnOk result (booked.new.0.next ≤ lots.now.next + length booked.new.1) }
     ensures entered { OnOk result (length postings.now ≤ length booked.new.1) }
+    ensures few { length booked.new.1 ≤ 288 }
+    ensures kept { IsKept booked.new }
+    ensures lots { WellKept lots.now }
+    ensures postings { (length postings.now ≤ 16) × (list_all posting_in_range postings.now ≡ true) }
 {
     booked.start(lots);
     booked.book_postings(policy, day, postings.as_slice())

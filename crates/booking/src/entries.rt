@@ -70,7 +70,9 @@ impl Entries {
 
     // The first blank becomes an amount of a commodity; no other entry changes.
     pub fn fill_blank(&mut self, amount: i32, commodity: u8)
-        ensures { self.new ≡ fill amount commodity self.old }
+        ensures filled { self.new ≡ fill amount commodity self.old }
+        ensures few { (length self.old ≤ 288) × (length self.new ≤ 288) }
+        ensures ranges { (list_all entry_in_range self.old ≡ true) × (list_all entry_in_range self.new ≡ true) }
     {
         let entries = self.as_slice();
         if let Some(place) = entries.iter().position(|entry| entry.kind.is_unfilled()) {
@@ -87,7 +89,9 @@ impl Entries {
 
     // Lists one row for each entry, in order, whatever the list had.
     pub fn list_rows(&self, transaction: &Transaction, rows: &mut Rows)
-        ensures { rows.new ≡ rows_of transaction.now self.now }
+        ensures listed { rows.new ≡ rows_of transaction.now self.now }
+        ensures few { length self.now ≤ 288 }
+        ensures ranges { list_all entry_in_range self.now ≡ true }
     {
         rows.clear();
         for entry in self.as_slice() {

@@ -57,6 +57,8 @@ impl<T: Copy + Ranged, const N: usize> RangedList<T, N> {
         ensures answer { (result, self.new) ≡ pushed N self.old item }
         ensures room { IsOk result ↔ (length self.old < N) }
         ensures added { OnOk result (self.new ≡ self.old ++ item ∷ []) }
+        ensures few { (length self.old ≤ N) × (length self.new ≤ N) }
+        ensures ranges { (list_all T.in_range self.old ≡ true) × (list_all T.in_range self.new ≡ true) }
     {
         self.list.push(item)
     }
@@ -72,7 +74,9 @@ impl<T: Copy + Ranged, const N: usize> RangedList<T, N> {
     #[tactic(auto, using(crate::proofs::Passing::pass_set))]
     pub(crate) fn put(&mut self, place: usize, item: T)
         requires { T.in_range item ≡ true }
-        ensures { self.new ≡ slice_set self.old place item }
+        ensures written { self.new ≡ slice_set self.old place item }
+        ensures few { (length self.old ≤ N) × (length self.new ≤ N) }
+        ensures ranges { (list_all T.in_range self.old ≡ true) × (list_all T.in_range self.new ≡ true) }
     {
         self.list.put(place, item);
     }

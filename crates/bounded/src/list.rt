@@ -53,6 +53,7 @@ impl<T: Copy, const N: usize> Bounded<T, N> {
         ensures answer { (result, self.new) ≡ pushed N self.old item }
         ensures room { IsOk result ↔ (length self.old < N) }
         ensures added { OnOk result (self.new ≡ self.old ++ item ∷ []) }
+        ensures within { (length self.old ≤ N) × (length self.new ≤ N) }
     {
         if self.len >= N {
             return Err(Full);
@@ -65,7 +66,8 @@ impl<T: Copy, const N: usize> Bounded<T, N> {
     // Writes over the item at a place; past the end there is none.
     #[tactic(auto, using(crate::proofs::Lists::take_set))]
     pub fn put(&mut self, place: usize, item: T)
-        ensures { self.new ≡ slice_set self.old place item }
+        ensures written { self.new ≡ slice_set self.old place item }
+        ensures within { (length self.old ≤ N) × (length self.new ≤ N) }
     {
         if place < self.len {
             self.slots[place] = item;
@@ -75,7 +77,8 @@ impl<T: Copy, const N: usize> Bounded<T, N> {
     // Takes the item at a place out; those behind it close up. Past the end there is none.
     #[tactic(auto, using(crate::proofs::Lists::take_closed_up))]
     pub fn remove(&mut self, place: usize)
-        ensures { self.new ≡ remove self.old place }
+        ensures removed { self.new ≡ remove self.old place }
+        ensures within { (length self.old ≤ N) × (length self.new ≤ N) }
     {
         if place < self.len {
             self.slots.copy_within(place + 1..self.len, place);
@@ -85,14 +88,16 @@ impl<T: Copy, const N: usize> Bounded<T, N> {
 
     // Takes all items out.
     pub fn clear(&mut self)
-        ensures { self.new ≡ [] }
+        ensures emptied { self.new ≡ [] }
+        ensures within { length self.old ≤ N }
     {
         self.len = 0;
     }
 
     // Becomes a list of the same items. It is no `Clone`: this moves no unused place, and makes no list.
     pub fn copy_from(&mut self, other: &Self)
-        ensures { self.new ≡ other.now }
+        ensures copied { self.new ≡ other.now }
+        ensures within { (length self.old ≤ N) × (length self.new ≤ N) }
     {
         let items = other.as_slice();
         self.slots[..items.len()].copy_from_slice(items);

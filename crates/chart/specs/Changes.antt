@@ -1,8 +1,12 @@
 -- What the chart's functions make of names, whatever they are given: these are steps of the program, and what they come to for names
 -- that are allowed stands in the words of `books`.
-use Rattle.std.specs.Prelude.{ℕ, true, cond, List, [], ◌∷◌, ◌++◌, length, take, Option, nat_le}
+use Rattle.std.specs.Prelude.{ℕ, ◌≤◌, true, cond, List, [], ◌∷◌, ◌++◌, length, take, Option, nat_le}
 use Rattle.booking.specs.Limits.{most_commodities, most_accounts}
 use Rattle.books.specs.States.{Names}
+
+-- what a chart has room for
+abbrev pub WithinLimits : Names → Type 0
+WithinLimits k = (length k.commodities ≤ most_commodities) × (length k.accounts ≤ most_accounts)
 
 -- one more at the end, unless there are n
 abbrev pub push_below : {X : Type 0} → ℕ → List X → X → List X

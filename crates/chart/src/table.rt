@@ -6,7 +6,7 @@ ghost use Rattle.books.specs.Conditions.{commodities_full, accounts_full};
 ghost use Rattle.books.specs.Lookups.{commodity_number, account_number, open_account, any_under, own_of};
 ghost use Rattle.books.specs.Changes as books;
 ghost use Rattle.books.specs.States.{no_names};
-ghost use Rattle.chart.specs.Changes.{with_commodity, with_account};
+ghost use Rattle.chart.specs.Changes.{WithinLimits, with_commodity, with_account};
 
 use booking::limits::{MOST_ACCOUNTS, MOST_COMMODITIES};
 use books::account::Account;
@@ -23,10 +23,13 @@ pub struct Chart {
 
 impl Model for Chart {
     ghost use Rattle.books.specs.States.{Names};
+    ghost use Rattle.chart.specs.Changes.{WithinLimits};
 
     ghost Value = { Names };
 
     ghost view = { λ c. record { commodities = c.commodities; accounts = c.accounts } };
+
+    ghost invariant = { λ c. WithinLimits (record { commodities = c.commodities; accounts = c.accounts }) };
 }
 
 // The numbers of the commodity and of the account at a place, or of the next one: both are counted from 1.
@@ -55,7 +58,8 @@ fn place_of(account: u16) -> usize
 impl Chart {
     // The number of a declared commodity.
     pub fn commodity(&self, name: &[u8]) -> Option<u8>
-        ensures { result ≡ commodity_number self.now name.now }
+        ensures number { result ≡ commodity_number self.now name.now }
+        ensures within { WithinLimits self.now }
     {
         self.commodity_list()
             .iter()
@@ -65,7 +69,8 @@ impl Chart {
 
     // The number of an account that was opened, closed or not.
     pub fn account(&self, name: &[u8]) -> Option<u16>
-        ensures { result ≡ account_number self.now name.now }
+        ensures number { result ≡ account_number self.now name.now }
+        ensures within { WithinLimits self.now }
     {
         self.account_list()
             .iter()
@@ -75,7 +80,8 @@ impl Chart {
 
     // The number of an account that is open.
     pub fn open_account(&self, name: &[u8]) -> Option<u16>
-        ensures { result ≡ open_account self.now name.now }
+        ensures number { result ≡ open_account self.now name.now }
+        ensures within { WithinLimits self.now }
     {
         self.account_list()
             .iter()
@@ -85,7 +91,8 @@ impl Chart {
 
     // Whether an account that lies under a name was ever opened.
     pub fn has_under(&self, name: &[u8]) -> bool
-        ensures { result ≡ any_under self.now name.now }
+        ensures found { result ≡ any_under self.now name.now }
+        ensures within { WithinLimits self.now }
     {
         self.account_list()
             .iter()
@@ -94,7 +101,8 @@ impl Chart {
 
     // The own commodity of the account of a number, if it has one.
     pub fn own(&self, account: u16) -> Option<u8>
-        ensures { result ≡ own_of self.now (Some account) }
+        ensures own { result ≡ own_of self.now (Some account) }
+        ensures within { WithinLimits self.now }
     {
         self.account_list().get(place_of(account))?.own
     }
@@ -102,6 +110,7 @@ impl Chart {
     pub fn commodities(&self) -> usize
         ensures counted { result ≡ length self.now.commodities }
         ensures few { result ≤ 16 }
+        ensures within { WithinLimits self.now }
     {
         self.commodity_list().len()
     }
@@ -110,6 +119,7 @@ impl Chart {
     pub fn commodity_list(&self) -> &[Name]
         ensures listed { result.now ≡ self.now.commodities }
         ensures few { length result.now ≤ 16 }
+        ensures within { WithinLimits self.now }
     {
         self.commodities.as_slice()
     }
@@ -118,6 +128,7 @@ impl Chart {
     pub fn account_list(&self) -> &[Account]
         ensures listed { result.now ≡ self.now.accounts }
         ensures few { length result.now ≤ 64 }
+        ensures within { WithinLimits self.now }
     {
         self.accounts.as_slice()
     }
@@ -125,6 +136,7 @@ impl Chart {
     pub fn accounts(&self) -> usize
         ensures counted { result ≡ length self.now.accounts }
         ensures few { result ≤ 64 }
+        ensures within { WithinLimits self.now }
     {
         self.account_list().len()
     }
@@ -133,7 +145,8 @@ impl Chart {
 // A new chart, and what changes one. Nothing is tested here: a call on the ledger has refused what is not allowed.
 impl Chart {
     pub fn new() -> Chart
-        ensures { result ≡ no_names }
+        ensures empty { result ≡ no_names }
+        ensures within { WithinLimits result }
     {
         let name = Name::new(b"");
         Chart {
@@ -152,6 +165,7 @@ impl Chart {
         ensures number { result ≡ length self.old.commodities + 1 }
         ensures defined { self.new ≡ with_commodity name.now self.old }
         ensures allowed { is_commodity_name name.now ≡ true → commodities_full self.old ≡ false → self.new ≡ books.with_commodity self.old name.now }
+        ensures within { WithinLimits self.old × WithinLimits self.new }
     {
         let number = commodity_at(self.commodities());
         let _ = self.commodities.push(Name::new(name));
@@ -164,6 +178,7 @@ impl Chart {
         ensures number { result ≡ length self.old.accounts + 1 }
         ensures defined { self.new ≡ with_account name.now own self.old }
         ensures allowed { is_account_name name.now ≡ true → accounts_full self.old ≡ false → self.new ≡ books.account_added self.old name.now own }
+        ensures within { WithinLimits self.old × WithinLimits self.new }
     {
         let number = account_at(self.accounts());
         let _ = self.accounts.push(Account {
@@ -176,7 +191,8 @@ impl Chart {
 
     // The account of a number is open no more.
     pub fn close(&mut self, account: u16)
-        ensures { self.new ≡ books.with_account_closed self.old account }
+        ensures closed { self.new ≡ books.with_account_closed self.old account }
+        ensures within { WithinLimits self.old × WithinLimits self.new }
     {
         let place = place_of(account);
         if let Some(kept) = self.account_list().get(place) {

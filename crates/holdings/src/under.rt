@@ -1,7 +1,10 @@
 // What the accounts hold that lie under a name, asked of plain balances and open lots.
-ghost use Rattle.std.specs.Prelude.{◌≡◌, ◌≤◌, pos, if◌then◌else◌, unsigned_abs};
+ghost use Rattle.std.specs.Prelude.{◌≡◌, ◌≤◌, true, pos, if◌then◌else◌, unsigned_abs};
 ghost use Rattle.values.specs.Names.{lies_under};
+ghost use Rattle.stock.specs.Kept.{WellKept};
+ghost use Rattle.booking.specs.Balances.{all_within};
 ghost use Rattle.books.specs.Holdings.{holding, holdings_under};
+ghost use Rattle.chart.specs.Changes.{WithinLimits};
 ghost use Rattle.holdings.specs.Bounds.{largest_holding};
 ghost use Rattle.holdings.specs.Pairs.{books_of};
 
@@ -39,8 +42,14 @@ pub fn holdings_under(
     name: &[u8],
     commodity: u8,
 ) -> i64
-    ensures { result ≡ holdings_under (books_of balances.now lots.now) name.now commodity 1 chart.now.accounts }
+    ensures value { result ≡ holdings_under (books_of balances.now lots.now) name.now commodity 1 chart.now.accounts }
+    ensures chart { WithinLimits chart.now }
+    ensures within { all_within balances.now ≡ true }
+    ensures kept { WellKept lots.now }
 {
+    // what balances and lots keep is told also where no account lies under the name
+    let _ = balances.as_slice();
+    let _ = lots.lots();
     let mut sum = 0;
     // no `sum`: it would owe that each sum on the way fits, which hangs on how many accounts there are
     for (number, account) in (1u16..).zip(chart.account_list()) {

@@ -1,5 +1,5 @@
 -- What keeps so what always holds of the open lots.
-use Rattle.std.proofs.Common.{◌≡◌, ℕ, suc, ◌+◌, ◌<◌, ◌≤◌, true, List, [], ◌∷◌, ◌++◌, length, get_or, take, drop, set, Some, sym, ap, ◌∙◌, subst, arith}
+use Rattle.std.proofs.Common.{◌≡◌, ℕ, suc, ◌+◌, ◌-◌, ◌<◌, ◌≤◌, true, List, [], ◌∷◌, ◌++◌, length, get_or, take, drop, set, Some, sym, ap, ◌∙◌, subst, arith}
 use Rattle.std.specs.List.{remove, AllByRecursion}
 use Rattle.std.proofs.ByRecursion.{All-weaker, All-push}
 use Rattle.std.proofs.lemmas.Bool.Decides.{nat_tests}
@@ -73,9 +73,19 @@ kept_removed t i h w =
     kept_without (take i t.lots) (get_or t.lots i no_lot) (drop (suc i) t.lots) t.next
     (subst (λ (rs : List LotRow). WellKept (record { lots = rs; next = t.next })) (split_at t.lots i no_lot h) w)
 
--- what a lot that has grown or shrunk is
+-- what a lot that has grown or shrunk is, and the table once it is put in its place
 pub grown_some : (r y : LotRow) (n : ℕ) → Some y ≡ grown r n → y ≡ with_more r n
 grown_some r y n e = grind (arith, nat_tests)
 
+pub kept_grown : (t : Table) (i n : ℕ) (y : LotRow) (rows : List LotRow) → rows ≡ set t.lots i y → i < length t.lots → Some y ≡ grown (get_or t.lots i no_lot) n → in_range y ≡ true → WellKept t → WellKept (record { lots = rows; next = t.next })
+kept_grown t i n y rows e h some good w =
+    let x = get_or t.lots i no_lot in
+    rw e (kept_set t i (x.units + n) y h (grown_some x y n some) good w)
+
 pub shrunk_some : (r y : LotRow) (n : ℕ) → Some y ≡ shrunk r n → (y ≡ with_fewer r n) × (n < r.units)
 shrunk_some r y n e = (grind (arith, nat_tests), grind (arith, nat_tests))
+
+pub kept_shrunk : (t : Table) (i n : ℕ) (y : LotRow) (rows : List LotRow) → rows ≡ set t.lots i y → i < length t.lots → Some y ≡ shrunk (get_or t.lots i no_lot) n → in_range y ≡ true → WellKept t → WellKept (record { lots = rows; next = t.next })
+kept_shrunk t i n y rows e h some good w =
+    let x = get_or t.lots i no_lot in
+    rw e (kept_set t i (x.units - n) y h (shrunk_some x y n some).0 good w)

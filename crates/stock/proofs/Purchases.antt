@@ -8,7 +8,7 @@ use Rattle.refusal.specs.declared.Refusal.{Refusal}
 use Rattle.refusal.specs.declared.Refusal.TheVariants.{LotTooLarge}
 use Rattle.lots.specs.declared.rows.Key.{Key}
 use Rattle.lots.specs.declared.rows.LotRow.{LotRow}
-use Rattle.lots.specs.Rows.{most, same_key, no_lot, with_more}
+use Rattle.lots.specs.Rows.{most, in_range, same_key, no_lot, with_more}
 use Rattle.matching.specs.Matching.{units_if}
 use Rattle.matching.proofs.Drawing.{sum_of_zero_all}
 use Rattle.matching.proofs.Steps.{sum_of_split}
@@ -17,7 +17,7 @@ use Rattle.stock.specs.Tables.{Table, last_serial, answered, of_key, is_open, un
 use Rattle.stock.specs.Promises.{BringsUnits}
 use Rattle.stock.specs.Places.{OpenAt, opened}
 use Rattle.stock.specs.Kept.{WellKept, KeysDiffer}
-use Rattle.stock.proofs.Keeping.{key_same, key_itself}
+use Rattle.stock.proofs.Keeping.{key_same, key_itself, kept_pushed}
 
 -- n units more for the lot at place i
 abbrev pub grown_at : ℕ → ℕ → Table → Result ℕ Refusal × Table
@@ -35,6 +35,11 @@ other_key k r ne = let same = key_same r.key k in grind arith
 pub keys_others : (k : Key) (lots : List LotRow) → OpenAt k lots None → AllByRecursion (λ r. r.key ≡ k → ⊥) lots
 keys_others k lots none =
     All-weaker (Other k) (λ r. r.key ≡ k → ⊥) (λ r f e. let same = key_itself k in cc) lots (All-from_get_or (Other k) lots no_lot none)
+
+-- a new lot keeps what holds of the table
+pub kept_opened : (t : Table) (k : Key) (n : ℕ) (rows : List LotRow) (next : ℕ) → rows ≡ t.lots ++ (record { key = k; units = n; serial = t.next } ∷ []) → next ≡ t.next + 1 → length t.lots < 256 → in_range (record { key = k; units = n; serial = t.next }) ≡ true → OpenAt k t.lots None → WellKept t → WellKept (record { lots = rows; next = next })
+kept_opened t k n rows next e s room good none w =
+    rw (e, s) (kept_pushed t.lots (record { key = k; units = n; serial = t.next }) room good (keys_others k t.lots none) w)
 
 units_none : (k : Key) (lots : List LotRow) → AllByRecursion (Other k) lots → units_of_key k lots ≡ 0
 units_none k lots all = sum_of_zero_all (units_if (of_key k)) lots (All-weaker (Other k) (λ r. units_if (of_key k) r ≡ 0) (λ r f. cc) lots all)

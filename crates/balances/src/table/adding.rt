@@ -1,5 +1,7 @@
 // Adding amounts to balances.
-ghost use Rattle.std.specs.Prelude.{◌≡◌, ℕ, ◌+◌, ◌-◌, ◌*◌, ◌≤◌, length};
+ghost use Rattle.std.specs.Prelude.{◌≡◌, ℕ, ◌+◌, ◌-◌, ◌*◌, ◌≤◌, true, length};
+ghost use Rattle.std.specs.List.{list_all};
+ghost use Rattle.booking.specs.Ranges.{entry_in_range};
 ghost use Rattle.booking.specs.Balances.{balance_place, add_amount, add_kind, balances_after};
 ghost use Rattle.balances.specs.Bounds.{Near};
 
@@ -55,7 +57,9 @@ fn add_kind(places: &mut [i64; PLACES], kind: &EntryKind)
 #[tactic(auto, using(balancing::proofs::Within::all_within_more))]
 pub(super) fn add_entries(places: &mut [i64; PLACES], entries: &Entries)
     requires { Near places.old 0 }
-    ensures { places.new ≡ balances_after places.old entries.now }
+    ensures added { places.new ≡ balances_after places.old entries.now }
+    ensures few { length entries.now ≤ 288 }
+    ensures ranges { list_all entry_in_range entries.now ≡ true }
 {
     for entry in entries.as_slice() {
         add_kind(places, &entry.kind);

@@ -1,5 +1,7 @@
 // Whether balances stay within their bound once entries are added, found without adding them.
 ghost use Rattle.std.specs.Prelude.{◌≡◌, ◌*◌, ◌≤◌, true, length, unsigned_abs};
+ghost use Rattle.std.specs.List.{list_all};
+ghost use Rattle.booking.specs.Ranges.{entry_in_range};
 ghost use Rattle.booking.specs.Balances.{balances_after, all_within};
 ghost use Rattle.balances.specs.Sums.{amount_at, sum_at, place_stays, kind_stays};
 
@@ -74,7 +76,9 @@ fn kind_stays(places: &[i64; PLACES], entries: &Entries, kind: &EntryKind) -> bo
 // Whether all balances stay within their bound. Only those that an entry adds to are looked at: the others are within it already.
 pub(super) fn all_stay(places: &[i64; PLACES], entries: &Entries) -> bool
     requires { all_within places.now ≡ true }
-    ensures { result ≡ all_within (balances_after places.now entries.now) }
+    ensures stay { result ≡ all_within (balances_after places.now entries.now) }
+    ensures few { length entries.now ≤ 288 }
+    ensures ranges { list_all entry_in_range entries.now ≡ true }
 {
     entries
         .as_slice()

@@ -1,6 +1,7 @@
 // A new table, and one that becomes as another is.
 ghost use Rattle.std.specs.Prelude.{◌≡◌, ◌≤◌, length};
 ghost use Rattle.stock.specs.Tables.{no_lots};
+ghost use Rattle.stock.specs.Kept.{WellKept};
 
 use super::LotTable;
 use bounded::list::Bounded;
@@ -9,7 +10,8 @@ use lots::rows::LotRow;
 impl LotTable {
     // No lot is open, and the first will bear serial 1.
     pub fn new() -> LotTable
-        ensures { result ≡ no_lots }
+        ensures empty { result ≡ no_lots }
+        ensures kept { WellKept result }
     {
         LotTable {
             rows: Bounded::new(LotRow::default()),
@@ -21,6 +23,7 @@ impl LotTable {
     pub fn copy_from(&mut self, other: &LotTable)
         ensures copied { self.new ≡ other.now }
         ensures few { length self.new.lots ≤ 256 }
+        ensures kept { WellKept self.old × WellKept self.new }
     {
         self.rows.copy_from(&other.rows);
         self.next = other.next;

@@ -1,7 +1,9 @@
 // Purchases.
-ghost use Rattle.std.specs.Prelude.{◌≡◌, ◌+◌, ◌<◌, ◌≤◌, length, None};
+ghost use Rattle.std.specs.Prelude.{◌≡◌, ◌+◌, ◌<◌, ◌≤◌, true, length, None};
 ghost use Rattle.stock.specs.Places.{OpenAt, opened};
+ghost use Rattle.lots.specs.Rows.{in_range};
 ghost use Rattle.stock.specs.Tables.{last_serial, purchased, purchased_late};
+ghost use Rattle.stock.specs.Kept.{WellKept};
 ghost use Rattle.stock.specs.Promises.{BringsUnits, KeptIfRefused};
 
 use super::LotTable;
@@ -25,6 +27,8 @@ impl LotTable {
         ensures brings_units { BringsUnits bought.now.key bought.now.units self.old (result, self.new) }
         ensures one_lot_more { length self.new.lots ≤ length self.old.lots + 1 }
         ensures one_serial_more { self.new.next ≤ self.old.next + 1 }
+        ensures ranges { in_range bought.now ≡ true }
+        ensures kept { WellKept self.old × WellKept self.new }
         ensures refusal_changes_nothing { KeptIfRefused self.old (result, self.new) }
     {
         let row = bought.row();
@@ -47,6 +51,7 @@ impl LotTable {
         ensures opened { (result, self.new) ≡ opened bought.now.key bought.now.units self.old }
         ensures one_lot_more { length self.new.lots ≤ length self.old.lots + 1 }
         ensures one_serial_more { self.new.next ≤ self.old.next + 1 }
+        ensures kept { WellKept self.new }
     {
         let serial = self.next;
         let next = serial.checked_add(1).ok_or(Refusal::TooManyLots)?;

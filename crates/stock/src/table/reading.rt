@@ -17,14 +17,16 @@ impl LotTable {
 
     // The serial of the lot that is opened next.
     pub fn next_serial(&self) -> u32
-        ensures { result ≡ self.now.next }
+        ensures next { result ≡ self.now.next }
+        ensures kept { WellKept self.now }
     {
         self.next
     }
 
     // The open lot that bears a serial.
     pub fn lot(&self, serial: u32) -> Option<LotRow>
-        ensures { result ≡ lot_of_serial serial self.now.lots }
+        ensures found { result ≡ lot_of_serial serial self.now.lots }
+        ensures kept { WellKept self.now }
     {
         self.lots().iter().copied().find(|row| row.serial == serial)
     }

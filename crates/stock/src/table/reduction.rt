@@ -41,9 +41,11 @@ impl LotTable {
         ensures draws_earliest_first { DrawsEarliestFirst (P.Policy.order asked.now.policy.now) asked.now.wanted asked.now.units self.old (map_ok (λ _. draws.new) result, self.new) }
         ensures draws_in_range { OnOk result (list_all draw_in_range draws.new ≡ true) }
         ensures grows_by_one { OnOk result (length draws.new + length self.new.lots ≤ length self.old.lots + 1) }
+        ensures few { OnOk result (length draws.new ≤ 256) }
         ensures too_few_is_22 { RefusedExactly 22 (TooFew (matches asked.now.wanted) asked.now.units self.old.lots) result }
         ensures unsettled_is_23 { RefusedExactly 23 (Unsettled (P.Policy.order asked.now.policy.now) (matches asked.now.wanted) asked.now.units self.old.lots) result }
         ensures one_match_is_settled { AcceptedWithOneMatch asked.now.wanted asked.now.units self.old result }
+        ensures kept { WellKept self.old × WellKept self.new }
         ensures refusal_changes_nothing { KeptIfRefused self.old (result, self.new) }
         ensures refusal_keeps_draws { OnErr result (draws.new ≡ draws.old) }
     {
@@ -79,6 +81,8 @@ impl LotTable {
         ensures after { self.new ≡ table_after_reduction (P.Policy.order asked.now.policy.now) asked.now.wanted asked.now.units self.old }
         ensures in_range { list_all draw_in_range draws.new ≡ true }
         ensures grows_by_one { length draws.new + length self.new.lots ≤ length self.old.lots + 1 }
+        ensures few { length draws.new ≤ 256 }
+        ensures kept { WellKept self.new }
     {
         draws.clear();
         let mut left = asked.units;
@@ -94,7 +98,7 @@ impl LotTable {
     // so those that are still there have the units that they had before. `kept` tells the loop what the table keeps.
     fn take<P: Policy>(&mut self, asked: &Reduction<P>, left: u32) -> Option<Draw>
         ensures taken { TakesFirst (matches asked.now.wanted) ((P.Policy.order asked.now.policy.now).before asked.now.units) left self.old (result, self.new) }
-        ensures kept { WellKept self.old }
+        ensures kept { WellKept self.old × WellKept self.new }
     {
         let rows = self.lots();
         if left == 0 {

@@ -6,8 +6,8 @@ use Rattle.balances.specs.Sums.{kind_stays}
 use Rattle.balances.proofs.Sums.{stay_within}
 use Rattle.balances.proofs.table.staying.all_stay.Goals as goal
 
-pub returns : goal.returns
-returns c =
+pub returns-clause-stay : goal.returns-clause-stay
+returns-clause-stay c =
     let bs = c.args.places.now in
     let es = c.args.entries.now in
     let found = all_from_yields_List (λ (e : Entry). kind_stays bs es e.kind) _ _ c.all.result c.all.ensures.ran (YieldsList-from_slice es cc) (λ x b q k. search (rules, tests)) in

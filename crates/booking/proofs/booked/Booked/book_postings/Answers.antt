@@ -17,6 +17,7 @@ loop-posting-preserved g c =
       omega arith,
       omega arith,
       omega arith,
+      λ k. c.book_posting.ensures.keeps (l.invariant.4 k),
     )
 
 pub returns-in_err-book_posting-clause-defined : goal.returns-in_err-book_posting-clause-defined

@@ -5,5 +5,5 @@ use Rattle.books.specs.declared.account.Account.{Account}
 use Rattle.chart.proofs.Finding.{number_found}
 use Rattle.chart.proofs.table.Chart.open_account.Goals as goal
 
-pub returns : goal.returns
-returns c = number_found (λ (x : Account). x.is_open && bytes_eq x.name c.args.name.now) c.args.self.now.accounts c.position.ensures.ran (cc) (λ x b q k. search (rules, tests)) (search rules)
+pub returns-clause-number : goal.returns-clause-number
+returns-clause-number c = number_found (λ (x : Account). x.is_open && bytes_eq x.name c.args.name.now) c.args.self.now.accounts c.position.ensures.ran (cc) (λ x b q k. search (rules, tests)) (search rules)

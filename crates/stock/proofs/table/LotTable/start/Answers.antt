@@ -1,20 +1,18 @@
-use Rattle.std.proofs.Common.{◌≡◌, ◌+◌, ◌<◌, None, [], ◌∷◌, ◌++◌, length, ap, rules}
+use Rattle.std.proofs.Common.{◌≡◌, None, rules}
 use Rattle.lots.specs.declared.rows.LotRow.{LotRow}
 use Rattle.stock.specs.Places.{OpenAt}
 use Rattle.stock.specs.Tables.{Table}
-use Rattle.stock.proofs.Keeping.{kept_pushed}
-use Rattle.stock.proofs.Purchases.{keys_others}
+use Rattle.stock.proofs.Purchases.{kept_opened}
 use Rattle.stock.proofs.table.LotTable.start.Goals as goal
+
+-- what the table and the bought lot are behind their models
+none_open : (inside seen : Table) (row bought : LotRow) → inside ≡ seen → row ≡ bought → OpenAt bought.key seen.lots None → OpenAt row.key inside.lots None
+none_open inside seen row bought same same_row none = rw (same, same_row) none
 
 pub invariant_of-self-2 : goal.invariant_of-self-2
 invariant_of-self-2 c =
-    let rows = c.self.inside.rows in
-    let row = c.row.result in
-    let x : LotRow = record { key = row.key; units = row.units; serial = c.self.inside.next } in
-    let pushed : c.push.new.self ≡ rows ++ x ∷ [] = search rules in
-    let room : length rows < 256 = search rules in
-    let same_rows : rows ≡ c.args.self.now.lots = ap (λ (t : Table). t.lots) c.self.view_is in
-    let same_key : row.key ≡ c.args.bought.now.key = ap (λ (r : LotRow). r.key) c.row.ensures.row in
-    let none : OpenAt row.key rows None = rw (same_rows, same_key) c.requires in
-    let next : c.in_ok-next.next ≡ c.self.inside.next + 1 = search rules in
-    rw (pushed, next) (kept_pushed rows x room c.row.ensures.ranges (keys_others row.key rows none) c.self.invariant)
+    kept_opened (record { lots = c.self.inside.rows; next = c.self.inside.next }) c.row.result.key c.row.result.units c.push.new.self c.in_ok-next.next (search rules) (search rules) (search rules) c.row.ensures.ranges (none_open _ _ _ _ c.self.view_is c.row.ensures.row c.requires) c.self.invariant
+
+pub returns-clause-kept : goal.returns-clause-kept
+returns-clause-kept c =
+    kept_opened (record { lots = c.self.inside.rows; next = c.self.inside.next }) c.row.result.key c.row.result.units c.push.new.self c.in_ok-next.next (search rules) (search rules) (search rules) c.row.ensures.ranges (none_open _ _ _ _ c.self.view_is c.row.ensures.row c.requires) c.self.invariant

@@ -1,18 +1,23 @@
-use Rattle.std.proofs.Common.{◌≡◌, ◌-◌, ◌<◌, length, Some, get_or, rules}
-use Rattle.lots.specs.Rows.{no_lot, shrunk}
-use Rattle.stock.proofs.Keeping.{kept_set, kept_removed, shrunk_some}
+use Rattle.std.proofs.Common.{rules}
+use Rattle.stock.proofs.Keeping.{kept_shrunk, kept_removed}
 use Rattle.stock.proofs.table.LotTable.take.Goals as goal
 
 pub invariant_of-self : goal.invariant_of-self
 invariant_of-self g c =
-    let rows = c.self.inside.rows in
-    let i = c.in_ok-place.place in
-    let x = get_or rows i no_lot in
-    let within : i < length rows = search rules in
-    let some : Some c.row.result ≡ shrunk x c.args.left = search rules in
-    rw c.put.ensures (kept_set (record { lots = rows; next = c.self.inside.next }) i (x.units - c.args.left) c.row.result within (shrunk_some x c.row.result c.args.left some).0 c.row.ensures.ranges c.self.invariant)
+    kept_shrunk (record { lots = c.self.inside.rows; next = c.self.inside.next }) c.in_ok-place.place c.args.left c.row.result c.put.new.self c.put.ensures.written (search rules) (search rules) c.row.ensures.ranges c.self.invariant
 
 pub invariant_of-self-in-None : goal.invariant_of-self-in-None
 invariant_of-self-in-None g c =
-    let within : c.in_ok-place.place < length c.self.inside.rows = search rules in
-    rw c.remove.ensures (kept_removed (record { lots = c.self.inside.rows; next = c.self.inside.next }) c.in_ok-place.place within c.self.invariant)
+    rw c.remove.ensures.removed (kept_removed (record { lots = c.self.inside.rows; next = c.self.inside.next }) c.in_ok-place.place (search rules) c.self.invariant)
+
+pub returns-in-Some-clause-kept : goal.returns-in-Some-clause-kept
+returns-in-Some-clause-kept g c = (
+  c.lots-rows.ensures.kept,
+  kept_shrunk (record { lots = c.self.inside.rows; next = c.self.inside.next }) c.in_ok-place.place c.args.left c.row.result c.put.new.self c.put.ensures.written (search rules) (search rules) c.row.ensures.ranges c.self.invariant,
+)
+
+pub returns-in-None-clause-kept : goal.returns-in-None-clause-kept
+returns-in-None-clause-kept g c = (
+  c.lots-rows.ensures.kept,
+  rw c.remove.ensures.removed (kept_removed (record { lots = c.self.inside.rows; next = c.self.inside.next }) c.in_ok-place.place (search rules) c.self.invariant),
+)
