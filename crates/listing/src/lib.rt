@@ -7,8 +7,10 @@ ghost use Rattle.listing.specs.Figures.{hundredths_text, day_text};
 ghost use Rattle.listing.specs.Lines.{cost_text, braces_text, units_text, posting_text, directive_text};
 
 pub mod figures;
+pub mod line;
 
 use crate::figures::{Day, Hundredths, write_bytes};
+use crate::line::{cost_spec_of, line_of, position_of, posting_of, quantity_of};
 use fields::field::Field;
 use lines::directive::{Braces, Cost, Directive, Method, Posting, Units};
 use std::fmt;
@@ -83,8 +85,7 @@ impl fmt::Display for Listed<Cost<'_>> {
     ghost output = { λ l. Some (cost_text l.0) };
 
     fn fmt<W: fmt::Write>(&self, f: &mut fmt::Formatter<W>) -> fmt::Result {
-        let cost = self.0;
-        write!(f, "{} {}", Listed(cost.amount), Listed(cost.commodity))
+        write!(f, "{}", quantity_of(self.0))
     }
 }
 
@@ -92,13 +93,7 @@ impl fmt::Display for Listed<Braces<'_>> {
     ghost output = { λ l. Some (braces_text l.0) };
 
     fn fmt<W: fmt::Write>(&self, f: &mut fmt::Formatter<W>) -> fmt::Result {
-        let Braces { cost, date } = self.0;
-        match (cost, date) {
-            (None, None) => f.write_str("{}"),
-            (Some(cost), None) => write!(f, "{{{}}}", Listed(cost)),
-            (None, Some(date)) => write!(f, "{{{}}}", Listed(date)),
-            (Some(cost), Some(date)) => write!(f, "{{{}, {}}}", Listed(cost), Listed(date)),
-        }
+        write!(f, "{}", cost_spec_of(self.0))
     }
 }
 
@@ -106,12 +101,7 @@ impl fmt::Display for Listed<Units<'_>> {
     ghost output = { λ l. Some (units_text l.0) };
 
     fn fmt<W: fmt::Write>(&self, f: &mut fmt::Formatter<W>) -> fmt::Result {
-        let units = self.0;
-        write!(f, "{} {}", Listed(units.amount), Listed(units.commodity))?;
-        if let Some(braces) = units.braces {
-            write!(f, " {}", Listed(braces))?;
-        }
-        Ok(())
+        write!(f, "{}", position_of(self.0))
     }
 }
 
@@ -119,63 +109,14 @@ impl fmt::Display for Listed<Posting<'_>> {
     ghost output = { λ l. Some (posting_text l.0) };
 
     fn fmt<W: fmt::Write>(&self, f: &mut fmt::Formatter<W>) -> fmt::Result {
-        let posting = self.0;
-        write!(f, "posting {}", Listed(posting.account))?;
-        if let Some(units) = posting.units {
-            write!(f, " {}", Listed(units))?;
-        }
-        Ok(())
+        write!(f, "{}", posting_of(self.0))
     }
 }
 
-// What a line says: its kind and its fields.
 impl fmt::Display for Listed<Directive<'_>> {
     ghost output = { λ l. Some (directive_text l.0) };
 
     fn fmt<W: fmt::Write>(&self, f: &mut fmt::Formatter<W>) -> fmt::Result {
-        match self.0 {
-            Directive::BookingMethod(method) => {
-                write!(f, "option booking_method {}", Listed(method))
-            }
-            Directive::Commodity { date, name } => {
-                write!(f, "commodity {} {}", Listed(date), Listed(name))
-            }
-            Directive::Open {
-                date,
-                account,
-                commodity,
-            } => {
-                write!(f, "open {} {}", Listed(date), Listed(account))?;
-                if let Some(own) = commodity {
-                    write!(f, " {}", Listed(own))?;
-                }
-                Ok(())
-            }
-            Directive::Close { date, account } => {
-                write!(f, "close {} {}", Listed(date), Listed(account))
-            }
-            Directive::Balance {
-                date,
-                account,
-                amount,
-                commodity,
-                ..
-            } => write!(
-                f,
-                "balance {} {} {} {}",
-                Listed(date),
-                Listed(account),
-                Listed(amount),
-                Listed(commodity)
-            ),
-            Directive::Transaction { date, flag, text } => write!(
-                f,
-                "transaction {} {} \"{}\"",
-                Listed(date),
-                Listed(flag),
-                Listed(text)
-            ),
-            Directive::Posting(posting) => write!(f, "{}", Listed(posting)),
-        }
+        write!(f, "{}", line_of(self.0))
     }
 }
